@@ -1,0 +1,5 @@
+pub mod Faults
+pub mod Coding
+pub mod Numerals
+pub mod NumeralLaws
+pub mod Numbering
