@@ -3,3 +3,4 @@ pub mod Coding
 pub mod Numerals
 pub mod NumeralLaws
 pub mod Numbering
+pub mod RoundTrips

@@ -2,3 +2,4 @@
 pub mod fault;
 pub mod numeral;
 pub mod ring;
+pub mod round_trip;
