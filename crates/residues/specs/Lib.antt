@@ -1,0 +1,3 @@
+pub mod Modulus
+pub mod Ring
+pub mod Model
