@@ -56,8 +56,8 @@ sign-more out r x text p e =
     let l : r - 1 < length out = rw e (simp (length-append, length-replicate) (omega arith)) in
     set-split out (r - 1) x l
     ∙ ap₂ (λ (xs ys : List ℕ). xs ++ (x ∷ ys))
-      (ap (take (r - 1)) e ∙ take-append-le (r - 1) (replicate r 0) text (simp length-replicate (omega arith)) ∙ take-replicate (r - 1) r 0 (omega arith))
-      (ap₂ drop here e ∙ drop-at (replicate r 0) text r (length-replicate r 0))
+    (ap (take (r - 1)) e ∙ take-append-le (r - 1) (replicate r 0) text (simp length-replicate (omega arith)) ∙ take-replicate (r - 1) r 0 (omega arith))
+    (ap₂ drop here e ∙ drop-at (replicate r 0) text r (length-replicate r 0))
   where
     here : suc (r - 1) ≡ r
     here = omega arith
@@ -66,9 +66,8 @@ sign-more out r x text p e =
 pub to-front : (out : List ℕ) (r : ℕ) (text : List ℕ) → length out ≡ 80 → out ≡ replicate r 0 ++ text → (drop r out ++ take r out ≡ filled text) × (80 - r ≡ length text)
 to-front out r text l e =
     let k : r + length text ≡ 80 = let h : length (replicate r 0 ++ text) ≡ 80 = ap length (sym e) ∙ l in omega (arith, length-append (replicate r 0) text, length-replicate {A = ℕ} r 0) in
-    let d : r ≡ 80 - length text = omega arith in
-    (
+    let d : r ≡ 80 - length text = omega arith in (
       ap₂ (λ (xs ys : List ℕ). xs ++ ys) (ap (drop r) e ∙ drop-at (replicate r 0) text r (length-replicate r 0)) (ap (take r) e ∙ take-at (replicate r 0) text r (length-replicate r 0))
-      ∙ ap (λ n. text ++ replicate n 0) d,
+          ∙ ap (λ n. text ++ replicate n 0) d,
       omega arith,
     )

@@ -119,6 +119,7 @@ module _ (b : ℕ) (two : 2 ≤ b) where
     pub back : n < 2 ^ 64 → read-digits b 0 ds ≡ Some n
     pub some : 0 < length ds
     pub first : 0 < n → 48 < getD ds 0 0
+    pub figure : 48 ≤ getD ds 0 0
 
   good-digit : (n : ℕ) → n < b → Good n ((48 + n) ∷ [])
   unfolding read-digits
@@ -128,6 +129,7 @@ module _ (b : ℕ) (two : 2 ≤ b) where
         rw (is-digit-of n h, e, lt-ltb n (2 ^ 64) l);
     some = omega arith;
     first = λ p. omega arith;
+    figure = omega arith;
   }
 
   good-more : (n : ℕ) (ds : List ℕ) → b ≤ n → Good (n / b) ds → Good n (ds ++ ((48 + n % b) ∷ []))
@@ -141,6 +143,7 @@ module _ (b : ℕ) (two : 2 ≤ b) where
         first = λ p.
             rw (getD-append-left ds ((48 + n % b) ∷ []) 0 0 (g .some))
             (g .first (le-div 1 n b (omega arith) (omega (arith, one-mul b))));
+        figure = rw (getD-append-left ds ((48 + n % b) ∷ []) 0 0 (g .some)) (g .figure);
       }
 
   good : (n : ℕ) → Good n (numeral b n)
@@ -157,6 +160,10 @@ module _ (b : ℕ) (two : 2 ≤ b) where
 
   pub numeral-some : (n : ℕ) → 0 < length (numeral b n)
   numeral-some n = good n .some
+
+  -- it begins with a digit
+  pub numeral-figure : (n : ℕ) → 48 ≤ getD (numeral b n) 0 0
+  numeral-figure n = good n .figure
 
   pub numeral-length : (k n : ℕ) → 0 < k → n < b ^ k → length (numeral b n) ≤ k
   unfolding numeral

@@ -20,13 +20,27 @@ impl Refusal {
     pub fn plain(number: u8, layer: u8) -> Refusal
         ensures { λ r. ⌜ r ≡ placeless number layer ⌝ }
     {
-        Refusal { number, layer, step: 0, a: 0, b: 0, e: 0 }
+        Refusal {
+            number,
+            layer,
+            step: 0,
+            a: 0,
+            b: 0,
+            e: 0,
+        }
     }
 }
 
 pub impl fmt::Display for Refusal as RefusalDisplay {
     fn fmt<W: fmt::Write>(&self, f: &mut fmt::Formatter<W>) -> fmt::Result {
-        let Refusal { number, layer, step, a, b, e } = *self;
+        let Refusal {
+            number,
+            layer,
+            step,
+            a,
+            b,
+            e,
+        } = *self;
         write!(f, "{number} {layer} {step} {a} {b} {e}")
     }
 }

@@ -4,13 +4,13 @@ ghost use mathlib.Core.Bool.{true, false};
 ghost use Rattle.std.specs.Results.{Cases};
 ghost use Rattle.residues.specs.Modulus.{is-modulus, modulus-refusal};
 ghost use Rattle.residues.specs.Model.{residue-coding};
+use crate::residues::ModulusOutOfRange;
+use crate::residues::Residues;
 use coefficients::fault::RingFault;
 use coefficients::numeral::Base;
 use coefficients::numeral::read_numeral;
 use coefficients::numeral::write_numeral;
 use coefficients::ring::Ring;
-use crate::residues::ModulusOutOfRange;
-use crate::residues::Residues;
 use refusals::Refusal;
 
 impl ModulusOutOfRange {

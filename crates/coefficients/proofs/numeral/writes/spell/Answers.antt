@@ -15,8 +15,7 @@ loop-rest-again c =
     let h = c .loop-rest .inv in
     let b : ℕ = c .args .radix in
     let rest : ℕ = c .loop-rest .rest in
-    let low = places-left b rest (c .loop-rest .at) (omega arith) (omega arith) (h .1) (h .3) in
-    (
+    let low = places-left b rest (c .loop-rest .at) (omega arith) (omega arith) (h .1) (h .3) in (
       simp length-set (h .0),
       omega arith,
       omega arith,

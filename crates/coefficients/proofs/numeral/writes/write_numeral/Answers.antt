@@ -12,9 +12,9 @@ pub returns : need.returns
 returns c =
     let digits : c .spell-at .last .out ≡ replicate (c .spell-at .result) 0 ++ numeral (radix (c .args .base)) (c .args .n) = simp (sym (c .radix .ensures .value)) (c .spell-at .ensures .bytes) in
     let text : c .if-minus .out ≡ replicate (c .if-minus .at) 0 ++ signed-numeral (radix (c .args .base)) (c .args .minus) (c .args .n) =
-        elim (c .if-minus .came) [
-          | then-minus w ↦ simp (w .out-is, w .at-is, w .if-minus .taken) (sign-more (c .spell-at .last .out) (c .spell-at .result) 45 (numeral (radix (c .args .base)) (c .args .n)) (c .spell-at .ensures .bound .0) digits)
-          | else-minus w ↦ simp (w .out-is, w .at-is, w .if-minus .left) digits
-        ] in
+    elim (c .if-minus .came) [
+      | then-minus w ↦ simp (w .out-is, w .at-is, w .if-minus .taken) (sign-more (c .spell-at .last .out) (c .spell-at .result) 45 (numeral (radix (c .args .base)) (c .args .n)) (c .spell-at .ensures .bound .0) digits)
+      | else-minus w ↦ simp (w .out-is, w .at-is, w .if-minus .left) digits
+    ] in
     let front = to-front (c .if-minus .out) (c .if-minus .at) (signed-numeral (radix (c .args .base)) (c .args .minus) (c .args .n)) (omega arith) text in
     record { bytes = c .rotate-left .ensures .after ∙ front .0; len = front .1 }

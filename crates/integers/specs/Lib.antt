@@ -1,0 +1,3 @@
+pub mod Laws
+pub mod Ring
+pub mod Model
