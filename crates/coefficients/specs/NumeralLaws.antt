@@ -102,6 +102,18 @@ module _ (b : ℕ) (two : 2 ≤ b) where
       ∙ ap (λ ds. ds ++ (d ∷ cs)) (numeral-digit (c - 48) (omega arith))
       ∙ ap (λ x. x ∷ d ∷ cs) (omega arith)
 
+  digits-below : (n : ℕ) (cs : List ℕ) (m : ℕ) → n < 2 ^ 64 → read-digits b n cs ≡ Some m → m < 2 ^ 64
+  unfolding read-digits
+  digits-below n [] m h e = let q : n ≡ m = cc in omega arith
+  digits-below n (c ∷ cs) m h e =
+      let u = some-from-cond (is-digit b c && ltb (n * b + (c - 48)) (2 ^ 64)) (read-digits b (n * b + (c - 48)) cs) m e in
+      let p = and-parts (is-digit b c) (ltb (n * b + (c - 48)) (2 ^ 64)) (u .0) in
+      digits-below (n * b + (c - 48)) cs m (ltb-true (n * b + (c - 48)) (2 ^ 64) (p .1)) (u .1)
+
+  -- what is read has 64 bits
+  pub read-below : (cs : List ℕ) (m : ℕ) → read-numeral b cs ≡ Some m → m < 2 ^ 64
+  read-below cs m e = digits-below 0 cs m (omega arith) (some-from-cond (lean cs) (read-digits b 0 cs) m e .1)
+
   read-digits-push : (n : ℕ) (ds : List ℕ) (m c : ℕ) → read-digits b n ds ≡ Some m → is-digit b c ≡ true → m * b + (c - 48) < 2 ^ 64
       → read-digits b n (ds ++ (c ∷ [])) ≡ Some (m * b + (c - 48))
   unfolding read-digits

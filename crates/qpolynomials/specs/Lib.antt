@@ -1,0 +1,4 @@
+pub mod Product
+pub mod Laws
+pub mod Ring
+pub mod Model
