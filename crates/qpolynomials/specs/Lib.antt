@@ -2,3 +2,4 @@ pub mod Product
 pub mod Laws
 pub mod Ring
 pub mod Model
+pub mod Degrees

@@ -1,5 +1,9 @@
 // The ring of polynomials in q over two elements; those of degree up to 63 have codes.
 ghost use mathlib.Core.Path.{_≡_};
+ghost use Prim.Native.Nat.{ℕ, _+_};
+ghost use lib.Dec.{leb};
+ghost use Rattle.std.specs.Results.{isOk};
+ghost use Rattle.qpolynomials.specs.Degrees.{Degree};
 ghost use Rattle.qpolynomials.specs.Product.{times};
 ghost use Rattle.qpolynomials.specs.Model.{qpolynomial-coding};
 use coefficients::fault::RingFault;
@@ -18,14 +22,12 @@ fn product_bits(a: u64, b: u64) -> u128
     let mut left = a;
     let mut shifted = b as u128;
     let mut all = 0u128;
-    let mut i = 0u64;
     while left != 0 {
         if left % 2 == 1 {
             all ^= shifted;
         }
         left /= 2;
         shifted *= 2;
-        i += 1;
     }
     all
 }
@@ -45,7 +47,11 @@ pub impl Ring for QPolynomials as QPolynomialsRing {
         Ok(a ^ b)
     }
 
-    fn product(&self, a: u64, b: u64) -> Result<u64, RingFault> {
+    // Refused exactly where the degree of the product is above 63.
+    fn product(&self, a: u64, b: u64) -> Result<u64, RingFault>
+        ensures value { λ r. ⌜ r ≡ qpolynomial-coding .product a b ⌝ }
+        ensures degree { λ r. ⌜ ((d e : ℕ) → Degree d a → Degree e b → isOk r ≡ leb (d + e) 63) ⌝ }
+    {
         let all = product_bits(a, b);
         if all < 1u128 << 64 {
             Ok(all as u64)

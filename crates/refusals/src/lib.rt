@@ -2,7 +2,6 @@
 // case by case, the refusal of a fault.
 ghost use mathlib.Core.Path.{_≡_};
 ghost use Rattle.refusals.specs.Refusals.{plain as placeless};
-use std::fmt;
 
 // Its number, the layer that refuses, and four places; 0 where there is no place.
 #[derive(Clone, Copy, PartialEq, Eq, Debug)]
@@ -28,19 +27,5 @@ impl Refusal {
             b: 0,
             e: 0,
         }
-    }
-}
-
-pub impl fmt::Display for Refusal as RefusalDisplay {
-    fn fmt<W: fmt::Write>(&self, f: &mut fmt::Formatter<W>) -> fmt::Result {
-        let Refusal {
-            number,
-            layer,
-            step,
-            a,
-            b,
-            e,
-        } = *self;
-        write!(f, "{number} {layer} {step} {a} {b} {e}")
     }
 }
