@@ -13,3 +13,5 @@ pub struct Residues {
 pub struct ModulusOutOfRange;
 
 mod methods;
+
+pub use methods::ResiduesRing;
