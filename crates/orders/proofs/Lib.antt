@@ -1,0 +1,4 @@
+pub mod Comparing
+pub mod Ending
+pub mod Packing
+pub mod Weighing

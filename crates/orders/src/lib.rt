@@ -1,0 +1,5 @@
+// Images of words, and orders on images: lex and weighted degree.
+pub mod degree;
+pub mod image;
+pub mod order;
+pub mod weight;
