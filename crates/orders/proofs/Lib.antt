@@ -2,3 +2,4 @@ pub mod Comparing
 pub mod Ending
 pub mod Packing
 pub mod Weighing
+pub mod Steps

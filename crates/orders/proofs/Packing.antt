@@ -5,15 +5,15 @@ use mathlib.Core.Bool.{Bool, true, false, cond}
 use mathlib.Core.Logic.{⊎-elim}
 use Prim.Native.Nat.{ℕ, zero, suc, _+_, _-_, _*_, _/_, _%_, _^_, _<_, _≤_}
 use native.Mathlib.Omega.{arith}
-use native.Mathlib.Nat.{pow-suc, add-mul, mul-assoc, mul-comm, mod-eq-of-lt, pow-le-pow-right}
+use native.Mathlib.Nat.{pow-suc, add-mul, mul-assoc, mul-comm, pow-le-pow-right}
 use lib.Pow.{pow-add}
-use lib.Dec.{eqb, ltb, leb}
-use lib.ListN.{length, drop, getD}
-use Rattle.std.proofs.shelf.Lists.{drop-more, drop-all}
-use Rattle.std.proofs.shelf.Tests.{ne-eqb, eq-eqb, cases-eq, cases-bool, and-parts, ltb-true, leb-true, lt-ltb, le-leb, lt-leb}
+use lib.Dec.{eqb}
+use lib.ListN.{length}
+use Rattle.std.proofs.shelf.Tests.{ne-eqb, eq-eqb, cases-eq, cases-bool}
 use Rattle.std.proofs.shelf.Bits.{mul-add-lt, div-mul-add, mod-mul-add}
 use Rattle.orders.specs.Letters.{letters, is-letter, count, counts-from, image}
 use Rattle.orders.specs.Images.{bytes}
+use Rattle.orders.proofs.Steps.{letter-bounds}
 
 -- what the letters of a word add up to
 abbrev pub packing : List ℕ → ℕ
@@ -93,9 +93,7 @@ packing-total [] = refl
 packing-total (x ∷ xs) =
     ⊎-elim
     (λ e.
-    let p = and-parts (ltb 0 x) (leb x 8) e in
-    let a = ltb-true 0 x (p .0) in
-    let b = leb-true x 8 (p .1) in
+    let b = letter-bounds x e in
     let t = total-more 1 8 x (letters xs) (omega arith) (omega arith) in
     let m : 256 ^ (1 + 8 - 1 - x) ≡ 256 ^ (8 - x) = ap (λ m. 256 ^ m) (omega arith) in
     rw e (ap (λ m. 256 ^ (8 - x) + m) (packing-total xs) ∙ ap (λ m. m + total 1 8 (letters xs)) (sym m) ∙ sym t))
@@ -120,14 +118,3 @@ unit-of x h = ap (λ m. 2 ^ m) (omega arith) ∙ shifted (8 - x)
 
 pub unit-le : (x : ℕ) → 0 < x → 256 ^ (8 - x) ≤ 256 ^ 7
 unit-le x h = pow-le-pow-right {n = 256} (omega arith) {i = 8 - x} {j = 7} (omega arith)
-
--- one step along a row, and where the word ends
-pub packing-more : (xs : List ℕ) (i : ℕ) → i < length xs → 0 < getD xs i 0 → getD xs i 0 ≤ 8
-    → packing (letters (drop i xs)) ≡ 256 ^ (8 - getD xs i 0) + packing (letters (drop (i + 1) xs))
-packing-more xs i h l b = rw (drop-more xs i 0 h) (rw (lt-ltb 0 (getD xs i 0) l, le-leb (getD xs i 0) 8 b))
-
-pub packing-stop : (xs : List ℕ) (i : ℕ) → i < length xs → (0 < getD xs i 0 → getD xs i 0 ≤ 8 → ⊥) → packing (letters (drop i xs)) ≡ 0
-packing-stop xs i h n = rw (drop-more xs i 0 h) (⊎-elim (λ e. let p = and-parts _ _ e in absurd (n (ltb-true _ _ (p .0)) (leb-true _ _ (p .1)))) (λ e. rw e) (cases-bool (is-letter (getD xs i 0))))
-
-pub packing-end : (xs : List ℕ) (i : ℕ) → length xs ≤ i → packing (letters (drop i xs)) ≡ 0
-packing-end xs i h = rw (drop-all i xs h)

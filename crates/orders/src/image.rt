@@ -3,10 +3,9 @@ ghost use mathlib.Core.Path.{_≡_};
 ghost use Rattle.orders.specs.Letters.{letters, image};
 ghost use Rattle.orders.specs.Orders.{first-difference};
 ghost use Rattle.orders.specs.Images.{counts as counts-of};
+use crate::letter::Row;
+use crate::letter::is_letter;
 use std::cmp::Ordering;
-
-// Letters from 1 to 8, up to the first number that is no letter.
-pub type Row = [u8; 32];
 
 // The eight counts are the bytes of one number, that of x1 the highest: comparing numbers compares images.
 #[derive(Clone, Copy, PartialEq, Eq, Debug)]
@@ -21,7 +20,7 @@ impl Image {
     {
         let mut packed = 0u64;
         for x in row {
-            if *x == 0 || *x > 8 {
+            if !is_letter(*x) {
                 return Image { packed };
             }
             packed += 1 << (64 - 8 * *x);
