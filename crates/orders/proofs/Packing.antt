@@ -21,14 +21,14 @@ packing [] = 0
 packing (x ∷ w) = 256 ^ (8 - x) + packing w
 
 -- the counts of the n letters from k on as the bytes of one number
-abbrev total : ℕ → ℕ → List ℕ → ℕ
+abbrev pub total : ℕ → ℕ → List ℕ → ℕ
 total k zero w = 0
 total k (suc n) w = count k w * 256 ^ n + total (suc k) n w
 
-count-other : (k x : ℕ) (w : List ℕ) → (x ≡ k → ⊥) → count k (x ∷ w) ≡ count k w
+pub count-other : (k x : ℕ) (w : List ℕ) → (x ≡ k → ⊥) → count k (x ∷ w) ≡ count k w
 count-other k x w h = let e = ne-eqb x k h in let f : _≡_ {A = ℕ} (cond (eqb x k) 1 0) 0 = ap (λ (b : Bool). cond b 1 0) e in omega arith
 
-count-same : (k x : ℕ) (w : List ℕ) → x ≡ k → count k (x ∷ w) ≡ 1 + count k w
+pub count-same : (k x : ℕ) (w : List ℕ) → x ≡ k → count k (x ∷ w) ≡ 1 + count k w
 count-same k x w h = let e = eq-eqb x k h in let f : _≡_ {A = ℕ} (cond (eqb x k) 1 0) 1 = ap (λ (b : Bool). cond b 1 0) e in omega arith
 
 -- a letter that comes before those counted
@@ -54,13 +54,13 @@ total-more k (suc n) x w l h =
     omega arith)
     (cases-eq x k)
 
-count-le : (k : ℕ) (w : List ℕ) → count k w ≤ length w
+pub count-le : (k : ℕ) (w : List ℕ) → count k w ≤ length w
 count-le k [] = omega arith
 count-le k (x ∷ w) =
     let h = count-le k w in
     ⊎-elim (λ e. let c = count-same k x w e in omega arith) (λ e. let c = count-other k x w e in omega arith) (cases-eq x k)
 
-total-lt : (k n : ℕ) (w : List ℕ) → length w < 256 → total k n w < 256 ^ n
+pub total-lt : (k n : ℕ) (w : List ℕ) → length w < 256 → total k n w < 256 ^ n
 total-lt k zero w h = omega arith
 total-lt k (suc n) w h =
     let c = count-le k w in
@@ -84,27 +84,32 @@ bytes-total k (suc n) h w l =
     let g = mod-mul-add h 256 c (let m = count-le k w in omega arith) in
     ap (λ m. m / 256 ^ n % 256 ∷ bytes n m) e ∙ ap₂ (λ x xs. x ∷ xs) (ap (λ m. m % 256) f ∙ g) (bytes-total (suc k) n (h * 256 + c) w l)
 
-letters-le : (xs : List ℕ) → length (letters xs) ≤ length xs
+pub letters-le : (xs : List ℕ) → length (letters xs) ≤ length xs
 letters-le [] = omega arith
 letters-le (x ∷ xs) = let h = letters-le xs in ⊎-elim (λ e. rw e (omega arith)) (λ e. rw e (omega arith)) (cases-bool (is-letter x))
 
-packing-total : (xs : List ℕ) → packing (letters xs) ≡ total 1 8 (letters xs)
-packing-total [] = refl
-packing-total (x ∷ xs) =
-    ⊎-elim
-    (λ e.
-    let b = letter-bounds x e in
-    let t = total-more 1 8 x (letters xs) (omega arith) (omega arith) in
+-- a list of letters
+abbrev pub Lettered : List ℕ → Type 0
+Lettered [] = Unit {0}
+Lettered (x ∷ w) = (is-letter x ≡ true) × Lettered w
+
+pub letters-lettered : (xs : List ℕ) → Lettered (letters xs)
+letters-lettered [] = tt
+letters-lettered (x ∷ xs) = ⊎-elim (λ e. rw e (e, letters-lettered xs)) (λ e. rw e tt) (cases-bool (is-letter x))
+
+pub packing-total : (w : List ℕ) → Lettered w → packing w ≡ total 1 8 w
+packing-total [] h = refl
+packing-total (x ∷ w) h =
+    let b = letter-bounds x (h .0) in
+    let t = total-more 1 8 x w (omega arith) (omega arith) in
     let m : 256 ^ (1 + 8 - 1 - x) ≡ 256 ^ (8 - x) = ap (λ m. 256 ^ m) (omega arith) in
-    rw e (ap (λ m. 256 ^ (8 - x) + m) (packing-total xs) ∙ ap (λ m. m + total 1 8 (letters xs)) (sym m) ∙ sym t))
-    (λ e. rw e)
-    (cases-bool (is-letter x))
+    ap (λ m. 256 ^ (8 - x) + m) (packing-total w (h .1)) ∙ ap (λ m. m + total 1 8 w) (sym m) ∙ sym t
 
 pub packing-counts : (xs : List ℕ) → length xs ≤ 32 → bytes 8 (packing (letters xs)) ≡ image (letters xs)
 unfolding image
 packing-counts xs h =
     let l = letters-le xs in
-    let t = packing-total xs in
+    let t = packing-total (letters xs) (letters-lettered xs) in
     let e : packing (letters xs) ≡ 0 * 256 ^ 8 + total 1 8 (letters xs) = omega arith in
     ap (bytes 8) e ∙ bytes-total 1 8 0 (letters xs) (omega arith)
 

@@ -8,10 +8,8 @@ use orders::weight::Weight;
 use orders::weight::WeightDebug;
 use orders::weight::WeightOutOfRange;
 use orders::weight::WeightOutOfRangeDebug;
-use std::cmp::Ordering;
 use std::test::*;
 use words::measured::Measured;
-use words::row::compare_rows;
 use words::word::Word;
 use words::word::WordDebug;
 use words::word::WordFault;
@@ -77,6 +75,17 @@ fn agrees<O: MonomialOrder>(order: &O, weights: &[u8; 8]) -> Result<(), Fail> {
         }
     }
     Ok(())
+}
+
+#[test]
+fn all_words() -> Result<(), Fail> {
+    let mut words = 0u64;
+    for n in 0..729u64 {
+        if word(n).is_ok() {
+            words += 1;
+        }
+    }
+    check_eq(words, 585)
 }
 
 #[test]

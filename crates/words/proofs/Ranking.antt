@@ -37,3 +37,6 @@ words-ordered o = record {
   converse = λ u v _ _. compare-rank o v u ∙ difference-reversed (rank o u) (rank o v) ∙ ap reversed (sym (compare-rank o u v));
   transitive = λ u v w _ _ _ h k. compare-rank o u w ∙ difference-less (rank o u) (rank o v) (rank o w) (sym (compare-rank o u v) ∙ h) (sym (compare-rank o v w) ∙ k);
 }
+
+pub same-words : (o : OrderModel) (u v : List ℕ) → first-difference u v ≡ Equal → compare-words o u v ≡ Equal
+same-words o u v h = ap (compare-words o u) (sym (difference-equal u v h)) ∙ words-ordered o .reflexive u tt

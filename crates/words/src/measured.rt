@@ -4,7 +4,8 @@ ghost use Rattle.orders.specs.Images.{counts};
 ghost use Rattle.orders.specs.Letters.{letters, image as image-of};
 ghost use Rattle.words.specs.Compare.{compare-words};
 ghost use Rattle.words.specs.Inversions.{inversions as inversions-of};
-use crate::row::compare_tied;
+use crate::row::by_numbers;
+use crate::row::first_letter_difference;
 use crate::row::row_inversions;
 use orders::image::Image;
 use orders::letter::Row;
@@ -39,7 +40,13 @@ impl Measured {
     {
         let by_image = order.compare(&self.image, &Image::of_row(other));
         match by_image {
-            Ordering::Equal => compare_tied(self.inversions, &self.row, other),
+            Ordering::Equal => {
+                let by_letters = first_letter_difference(&self.row, other);
+                match by_letters {
+                    Ordering::Equal => Ordering::Equal,
+                    _ => by_numbers(self.inversions, row_inversions(other), by_letters),
+                }
+            }
             _ => by_image,
         }
     }

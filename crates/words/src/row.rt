@@ -1,12 +1,12 @@
 // What is asked of the word that a plain row holds.
 ghost use mathlib.Core.Path.{_≡_};
-ghost use Prim.Native.Nat.{ℕ, _+_, _≤_, _<_};
-ghost use lib.ListN.{length, getD, drop};
+ghost use Prim.Native.Nat.{_≤_};
+ghost use lib.ListN.{length};
 ghost use mathlib.Core.Bool.{cond};
 ghost use Rattle.orders.specs.Letters.{letters, is-letter};
-ghost use Rattle.orders.specs.Orders.{first-difference};
-ghost use Rattle.words.specs.Compare.{compare-words, compare-ties};
-ghost use Rattle.words.specs.Inversions.{inversions as inversions-of, below, standard, leftmost-inversion};
+ghost use Rattle.orders.specs.Orders.{first-difference, numbers};
+ghost use Rattle.words.specs.Compare.{compare-words};
+ghost use Rattle.words.specs.Inversions.{inversions as inversions-of, standard, leftmost-inversion};
 ghost use Rattle.words.specs.Laws.{StandardWords};
 use orders::image::Image;
 use orders::letter::Row;
@@ -29,34 +29,20 @@ pub fn row_length(row: &Row) -> usize
     n
 }
 
-// How many letters after place i are smaller than the one there.
-fn smaller_after(row: &Row, i: usize) -> usize
-    requires { ⌜ i < 32 ⌝ }
-    ensures value { λ r. ⌜ r ≡ below (getD (now (row .entry)) i 0) (letters (drop (i + 1) (now (row .entry)))) ⌝ }
-    ensures bound { λ r. ⌜ r ≤ 32 ⌝ }
-{
-    let mut n = 0;
-    for k in i + 1..32 {
-        if !is_letter(row[k]) {
-            return n;
-        }
-        if row[k] < row[i] {
-            n += 1;
-        }
-    }
-    n
-}
-
-// How many pairs of places have the larger letter on the left.
+// How many pairs of places have the larger letter on the left. The letters so far are counted in the bytes of one number, that of x1 the
+// highest; below the byte of a letter are those of the larger letters, and their sum is what 255 leaves of them.
 pub fn row_inversions(row: &Row) -> usize
     ensures { λ r. ⌜ r ≡ inversions-of (letters (now (row .entry))) ⌝ }
 {
+    let mut seen = 0u64;
     let mut n = 0;
-    for i in 0..32 {
-        if !is_letter(row[i]) {
+    for x in row {
+        if !is_letter(*x) {
             return n;
         }
-        n += smaller_after(row, i);
+        let unit = 1u64 << (64 - 8 * *x);
+        n += ((seen & (unit - 1)) % 255) as usize;
+        seen += unit;
     }
     n
 }
@@ -89,30 +75,35 @@ pub fn row_is_standard(row: &Row) -> bool
     }
 }
 
-// Later image, then more inversions, then the larger letter at the first difference.
+// Later image, then more inversions, then the larger letter at the first difference. Inversions are counted only for different words of
+// one image.
 pub fn compare_rows<O: MonomialOrder>(order: &O, a: &Row, b: &Row) -> Ordering
     ensures { λ r. ⌜ r ≡ compare-words (model (now (order .entry))) (letters (now (a .entry))) (letters (now (b .entry))) ⌝ }
 {
     let by_image = order.compare(&Image::of_row(a), &Image::of_row(b));
     match by_image {
-        Ordering::Equal => compare_tied(row_inversions(a), a, b),
+        Ordering::Equal => {
+            let by_letters = first_letter_difference(a, b);
+            match by_letters {
+                Ordering::Equal => Ordering::Equal,
+                _ => by_numbers(row_inversions(a), row_inversions(b), by_letters),
+            }
+        }
         _ => by_image,
     }
 }
 
-// Words of one image: more inversions, then the larger letter at the first difference. The inversions of the first are counted already.
-pub(crate) fn compare_tied(inversions: usize, a: &Row, b: &Row) -> Ordering
-    requires { ⌜ inversions ≡ inversions-of (letters (now a)) ⌝ }
-    ensures { λ r. ⌜ r ≡ compare-ties (letters (now (a .entry))) (letters (now (b .entry))) ⌝ }
+// By two numbers, and where they are the same as the rest says.
+pub(crate) fn by_numbers(m: usize, n: usize, rest: Ordering) -> Ordering
+    ensures { λ r. ⌜ r ≡ numbers m n rest ⌝ }
 {
-    let other = row_inversions(b);
-    if inversions < other {
+    if m < n {
         return Ordering::Less;
     }
-    if inversions > other {
+    if m > n {
         return Ordering::Greater;
     }
-    first_letter_difference(a, b)
+    rest
 }
 
 fn letter_or_zero(x: u8) -> u8
@@ -122,7 +113,7 @@ fn letter_or_zero(x: u8) -> u8
 }
 
 // By the letters at the first difference; a word comes before those that it is the beginning of.
-fn first_letter_difference(a: &Row, b: &Row) -> Ordering
+pub(crate) fn first_letter_difference(a: &Row, b: &Row) -> Ordering
     ensures { λ r. ⌜ r ≡ first-difference (letters (now (a .entry))) (letters (now (b .entry))) ⌝ }
 {
     for i in 0..32 {

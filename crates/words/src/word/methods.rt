@@ -80,7 +80,7 @@ impl Word {
         if letter == 0 || letter > 8 {
             return Err(WordFault::BadLetter);
         }
-        let n = row_length(&self.row);
+        let n = self.len();
         if n >= 32 {
             return Err(WordFault::TooLong);
         }
