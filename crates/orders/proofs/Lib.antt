@@ -1,0 +1,5 @@
+pub mod Comparing
+pub mod Ending
+pub mod Packing
+pub mod Weighing
+pub mod Steps

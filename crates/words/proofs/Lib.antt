@@ -1,0 +1,4 @@
+pub mod Filling
+pub mod Ranking
+pub mod Rising
+pub mod Casting
