@@ -1,0 +1,203 @@
+-- Congruence is an equivalence, and is kept by sums, negatives, scaling, words on both sides, and products.
+use mathlib.Core.Path.{_≡_, refl, sym, ap, ap₂, fun-ext, _∙_}
+use mathlib.Core.Logic.{inl, inr}
+use mathlib.Core.List.{List, [], _∷_, _++_, append-assoc, append-nil}
+use Prim.Native.Nat.{ℕ}
+use Rattle.theory.specs.Ring.{CommutativeRing}
+use Rattle.theory.specs.FreeSum.{Word, place, Term, FreeSum, Occurs, _≈_, single, scale, negate, around, bind, times}
+use Rattle.theory.specs.Words.{Over, OverSum}
+use Rattle.theory.specs.Relations.{Relations, Pair, rhs, relator}
+use Rattle.theory.specs.Congruence.{Multiple, multiple, combination, Congruent}
+use Rattle.theory.proofs.RingLaws as ring
+use Rattle.theory.proofs.Eval.{eval, eval-nil, eval-append, eval-single, eval-scale, eval-negate, eval-around, eval-bind, eval-times, eval-exchange, eval-≈, ≈-of-eval}
+use Rattle.theory.proofs.Words.{over-join, place-place}
+
+module _ {R : CommutativeRing} where
+  -- a product by the words of one factor
+  times-left : (f g : FreeSum R) (φ : Word → R .carrier) → eval (times f g) φ ≡ eval (bind f (λ x. around x g [])) φ
+  unfolding place
+  times-left f g φ =
+      eval-times f g φ
+      ∙ sym (eval-bind f (λ x. around x g []) φ ∙ ap (eval f) (fun-ext (λ x. eval-around x g [] φ ∙ ap (eval g) (fun-ext (λ y. ap (λ t. φ (x ++ t)) (append-nil y))))))
+
+  times-right : (f g : FreeSum R) (φ : Word → R .carrier) → eval (times f g) φ ≡ eval (bind g (λ y. around [] f y)) φ
+  unfolding place
+  times-right f g φ =
+      eval-times f g φ ∙ eval-exchange f g (λ x y. φ (x ++ y))
+      ∙ sym (eval-bind g (λ y. around [] f y) φ ∙ ap (eval g) (fun-ext (λ y. eval-around [] f y φ)))
+
+module _ {R : CommutativeRing} (P : Relations R) where
+  -- the value of a multiple of a relator, and of a sum of multiples
+  pub eval-multiple : (m : Multiple P) (φ : Word → R .carrier)
+      → eval (multiple P m) φ ≡ R .mul (m .by) (R .add (φ (place (m .before) (m .j ∷ m .i ∷ []) (m .after))) (R .neg (eval (rhs P (m .j) (m .i)) (λ x. φ (place (m .before) x (m .after))))))
+  unfolding multiple relator
+  eval-multiple m φ =
+      let ψ : Word → R .carrier = λ x. φ (place (m .before) x (m .after)) in
+      eval-scale (m .by) (around (m .before) (relator P (m .j) (m .i)) (m .after)) φ
+      ∙ ap (R .mul (m .by))
+      (eval-around (m .before) (relator P (m .j) (m .i)) (m .after) φ
+      ∙ eval-append (single (m .j ∷ m .i ∷ [])) (negate (rhs P (m .j) (m .i))) ψ
+      ∙ ap₂ (R .add) (eval-single R (m .j ∷ m .i ∷ []) ψ) (eval-negate (rhs P (m .j) (m .i)) ψ))
+
+  combination-append : (l k : List (Multiple P)) → combination P (l ++ k) ≡ combination P l ++ combination P k
+  unfolding combination
+  combination-append [] k = refl
+  combination-append (m ∷ l) k = ap (λ f. multiple P m ++ f) (combination-append l k) ∙ sym (append-assoc (multiple P m) (combination P l) (combination P k))
+
+  -- each multiple, r times
+  times-multiple : R .carrier → Multiple P → Multiple P
+  times-multiple r m =
+      record { by = R .mul r (m .by); before = m .before; j = m .j; i = m .i; after = m .after; pair = m .pair; over-before = m .over-before; over-after = m .over-after }
+
+  times-all : R .carrier → List (Multiple P) → List (Multiple P)
+  times-all r [] = []
+  times-all r (m ∷ l) = times-multiple r m ∷ times-all r l
+
+  combination-times : (r : R .carrier) (l : List (Multiple P)) (φ : Word → R .carrier) → eval (combination P (times-all r l)) φ ≡ R .mul r (eval (combination P l) φ)
+  unfolding combination times-all times-multiple
+  combination-times r [] φ = eval-nil R φ ∙ sym (ap (R .mul r) (eval-nil R φ) ∙ ring.mul-zero R r)
+  combination-times r (m ∷ l) φ =
+      eval-append (multiple P (times-multiple r m)) (combination P (times-all r l)) φ
+      ∙ ap₂ (R .add) (eval-multiple (times-multiple r m) φ ∙ ring.mul-assoc R _ _ _ ∙ ap (R .mul r) (sym (eval-multiple m φ))) (combination-times r l φ)
+      ∙ sym (ap (R .mul r) (eval-append (multiple P m) (combination P l) φ) ∙ ring.mul-add R _ _ _)
+
+  -- congruence, by values
+  pub congruent-eval : (f g : FreeSum R) (c : Congruent P f g) (φ : Word → R .carrier) → eval f φ ≡ R .add (eval g φ) (eval (combination P (c .by)) φ)
+  congruent-eval f g c φ = eval-≈ f (g ++ combination P (c .by)) (c .differ) φ ∙ eval-append g (combination P (c .by)) φ
+
+  of-eval : (f g : FreeSum R) (l : List (Multiple P)) → ((φ : Word → R .carrier) → eval f φ ≡ R .add (eval g φ) (eval (combination P l) φ)) → Congruent P f g
+  of-eval f g l h = record { by = l; differ = ≈-of-eval f (g ++ combination P l) (λ φ. h φ ∙ sym (eval-append g (combination P l) φ)) }
+
+  pub congruent-equal : (f g : FreeSum R) → ((φ : Word → R .carrier) → eval f φ ≡ eval g φ) → Congruent P f g
+  unfolding combination
+  congruent-equal f g h = of-eval f g [] (λ φ. h φ ∙ sym (ap (R .add (eval g φ)) (eval-nil R φ) ∙ ring.add-zero R (eval g φ)))
+
+  pub congruent-≈ : (f g : FreeSum R) → f ≈ g → Congruent P f g
+  congruent-≈ f g h = congruent-equal f g (eval-≈ f g h)
+
+  pub congruent-trans : (f g k : FreeSum R) → Congruent P f g → Congruent P g k → Congruent P f k
+  congruent-trans f g k c d =
+      of-eval f k (d .by ++ c .by)
+      (λ φ. congruent-eval f g c φ ∙ ap (λ x. R .add x (eval (combination P (c .by)) φ)) (congruent-eval g k d φ) ∙ ring.add-assoc R _ _ _
+      ∙ ap (R .add (eval k φ)) (sym (ap (λ s. eval s φ) (combination-append (d .by) (c .by)) ∙ eval-append (combination P (d .by)) (combination P (c .by)) φ)))
+
+  pub congruent-append : (f g f′ g′ : FreeSum R) → Congruent P f g → Congruent P f′ g′ → Congruent P (f ++ f′) (g ++ g′)
+  congruent-append f g f′ g′ c d =
+      of-eval (f ++ f′) (g ++ g′) (c .by ++ d .by)
+      (λ φ. eval-append f f′ φ ∙ ap₂ (R .add) (congruent-eval f g c φ) (congruent-eval f′ g′ d φ) ∙ ring.add-swap R _ _ _ _
+      ∙ ap₂ (R .add) (sym (eval-append g g′ φ)) (sym (ap (λ s. eval s φ) (combination-append (c .by) (d .by)) ∙ eval-append (combination P (c .by)) (combination P (d .by)) φ)))
+
+  pub congruent-scale : (r : R .carrier) (f g : FreeSum R) → Congruent P f g → Congruent P (scale r f) (scale r g)
+  congruent-scale r f g c =
+      of-eval (scale r f) (scale r g) (times-all r (c .by))
+      (λ φ. eval-scale r f φ ∙ ap (R .mul r) (congruent-eval f g c φ) ∙ ring.mul-add R _ _ _ ∙ ap₂ (R .add) (sym (eval-scale r g φ)) (sym (combination-times r (c .by) φ)))
+
+  -- f = g + c, so g = f − c
+  pub congruent-sym : (f g : FreeSum R) → Congruent P f g → Congruent P g f
+  congruent-sym f g c = of-eval g f (times-all (R .neg (R .one)) (c .by)) (λ φ. sym (same-value φ))
+    where
+      same-value : (φ : Word → R .carrier) → R .add (eval f φ) (eval (combination P (times-all (R .neg (R .one)) (c .by))) φ) ≡ eval g φ
+      same-value φ =
+          ap₂ (R .add) (congruent-eval f g c φ) (combination-times (R .neg (R .one)) (c .by) φ ∙ ring.neg-one-mul R _)
+          ∙ ring.cancel R (eval g φ) (eval (combination P (c .by)) φ)
+
+  -- the negative is the sum scaled by −1
+  pub congruent-negate : (f g : FreeSum R) → Congruent P f g → Congruent P (negate f) (negate g)
+  congruent-negate f g c =
+      of-eval (negate f) (negate g) (times-all (R .neg (R .one)) (c .by))
+      (λ φ. eval-negate f φ ∙ ap (R .neg) (congruent-eval f g c φ) ∙ ring.neg-add R _ _
+      ∙ ap₂ (R .add) (sym (eval-negate g φ)) (sym (combination-times (R .neg (R .one)) (c .by) φ ∙ ring.neg-one-mul R _)))
+
+  -- a word is congruent to what it comes to when it is rewritten
+  pub congruent-relator : (u : Word) (j i : ℕ) (v : Word) → Pair (P .n) j i → Over (P .n) u → Over (P .n) v
+      → Congruent P (single (place u (j ∷ i ∷ []) v)) (around u (rhs P j i) v)
+  unfolding combination
+  congruent-relator u j i v h ou ov = of-eval (single (place u (j ∷ i ∷ []) v)) (around u (rhs P j i) v) (m ∷ []) same-value
+    where
+      m : Multiple P
+      m = record { by = R .one; before = u; j = j; i = i; after = v; pair = h; over-before = ou; over-after = ov }
+
+      same-value : (φ : Word → R .carrier) → eval (single {R = R} (place u (j ∷ i ∷ []) v)) φ ≡ R .add (eval (around u (rhs P j i) v) φ) (eval (multiple P m ++ []) φ)
+      same-value φ =
+          let a = φ (place u (j ∷ i ∷ []) v) in
+          let b = eval (rhs P j i) (λ x. φ (place u x v)) in
+          eval-single R (place u (j ∷ i ∷ []) v) φ
+          ∙ sym (ap₂ (R .add) (eval-around u (rhs P j i) v φ) (eval-append (multiple P m) [] φ ∙ ap₂ (R .add) (eval-multiple m φ ∙ ring.one-mul R _) (eval-nil R φ) ∙ ring.add-zero R _)
+          ∙ ring.add-left R b a (R .neg b) ∙ ap (R .add a) (ring.add-neg R b) ∙ ring.add-zero R a)
+
+  -- what holds of each word holds of a sum
+  cons-single : (e : Term R) (f : FreeSum R) (φ : Word → R .carrier) → eval (e ∷ f) φ ≡ eval (scale (e .coef) (single (e .word)) ++ f) φ
+  unfolding eval
+  cons-single e f φ =
+      sym (eval-append (scale (e .coef) (single (e .word))) f φ ∙ ap (λ x. R .add x (eval f φ))
+      (eval-scale (e .coef) (single (e .word)) φ ∙ ap (R .mul (e .coef)) (eval-single R (e .word) φ)))
+
+  pub congruent-bind : (f : FreeSum R) (k : Word → FreeSum R) → ((t : Word) → Occurs t f → Congruent P (single t) (k t)) → Congruent P f (bind f k)
+  unfolding bind
+  congruent-bind [] k h = congruent-equal [] [] (λ φ. refl)
+  congruent-bind (e ∷ f) k h =
+      congruent-trans (e ∷ f) (scale (e .coef) (single (e .word)) ++ f) (scale (e .coef) (k (e .word)) ++ bind f k)
+      (congruent-equal (e ∷ f) (scale (e .coef) (single (e .word)) ++ f) (cons-single e f))
+      (congruent-append (scale (e .coef) (single (e .word))) (scale (e .coef) (k (e .word))) f (bind f k)
+      (congruent-scale (e .coef) (single (e .word)) (k (e .word)) (h (e .word) (inl refl))) (congruent-bind f k (λ t o. h t (inr o))))
+
+  -- congruence is kept by words on both sides
+  around-multiple : (u v : Word) → Over (P .n) u → Over (P .n) v → Multiple P → Multiple P
+  around-multiple u v ou ov m = record {
+    by = m .by;
+    before = u ++ m .before;
+    j = m .j;
+    i = m .i;
+    after = m .after ++ v;
+    pair = m .pair;
+    over-before = over-join (P .n) u (m .before) ou (m .over-before);
+    over-after = over-join (P .n) (m .after) v (m .over-after) ov;
+  }
+
+  around-all : (u v : Word) → Over (P .n) u → Over (P .n) v → List (Multiple P) → List (Multiple P)
+  around-all u v ou ov [] = []
+  around-all u v ou ov (m ∷ l) = around-multiple u v ou ov m ∷ around-all u v ou ov l
+
+  combination-around : (u v : Word) (ou : Over (P .n) u) (ov : Over (P .n) v) (l : List (Multiple P)) (φ : Word → R .carrier)
+      → eval (combination P (around-all u v ou ov l)) φ ≡ eval (combination P l) (λ x. φ (place u x v))
+  unfolding combination around-all around-multiple
+  combination-around u v ou ov [] φ = eval-nil R φ ∙ sym (eval-nil R (λ x. φ (place u x v)))
+  combination-around u v ou ov (m ∷ l) φ =
+      eval-append (multiple P (around-multiple u v ou ov m)) (combination P (around-all u v ou ov l)) φ
+      ∙ ap₂ (R .add) (eval-multiple (around-multiple u v ou ov m) φ ∙ ap₂ (λ x y. R .mul (m .by) (R .add x (R .neg y))) (shift (m .j ∷ m .i ∷ []))
+      (ap (eval (rhs P (m .j) (m .i))) (fun-ext shift)) ∙ sym (eval-multiple m (λ x. φ (place u x v)))) (combination-around u v ou ov l φ)
+      ∙ sym (eval-append (multiple P m) (combination P l) (λ x. φ (place u x v)))
+    where
+      shift : (x : Word) → φ (place (u ++ m .before) x (m .after ++ v)) ≡ φ (place u (place (m .before) x (m .after)) v)
+      shift x = ap φ (sym (place-place u (m .before) x (m .after) v))
+
+  pub congruent-around : (u v : Word) → Over (P .n) u → Over (P .n) v → (f g : FreeSum R) → Congruent P f g → Congruent P (around u f v) (around u g v)
+  congruent-around u v ou ov f g c =
+      of-eval (around u f v) (around u g v) (around-all u v ou ov (c .by))
+      (λ φ. eval-around u f v φ ∙ congruent-eval f g c (λ x. φ (place u x v)) ∙ ap₂ (R .add) (sym (eval-around u g v φ)) (sym (combination-around u v ou ov (c .by) φ)))
+
+  congruent-each : (f : FreeSum R) (k l : Word → FreeSum R) → ((t : Word) → Occurs t f → Congruent P (k t) (l t)) → Congruent P (bind f k) (bind f l)
+  unfolding bind
+  congruent-each [] k l h = congruent-equal [] [] (λ φ. refl)
+  congruent-each (e ∷ f) k l h =
+      congruent-append (scale (e .coef) (k (e .word))) (scale (e .coef) (l (e .word))) (bind f k) (bind f l)
+      (congruent-scale (e .coef) (k (e .word)) (l (e .word)) (h (e .word) (inl refl)))
+      (congruent-each f k l (λ t o. h t (inr o)))
+
+  -- and so by products with a sum in the letters 1 to n, on either side
+  pub congruent-times-left : (f f′ g : FreeSum R) → OverSum (P .n) g → Congruent P f f′ → Congruent P (times f g) (times f′ g)
+  congruent-times-left f f′ g o c =
+      congruent-trans (times f g) (bind g (λ y. around [] f y)) (times f′ g) (congruent-equal (times f g) (bind g (λ y. around [] f y)) (times-right f g))
+      (congruent-trans (bind g (λ y. around [] f y)) (bind g (λ y. around [] f′ y)) (times f′ g)
+      (congruent-each g (λ y. around [] f y) (λ y. around [] f′ y) (λ y h. congruent-around [] y tt (o y h) f f′ c))
+      (congruent-equal (bind g (λ y. around [] f′ y)) (times f′ g) (λ φ. sym (times-right f′ g φ))))
+
+  pub congruent-times-right : (f g g′ : FreeSum R) → OverSum (P .n) f → Congruent P g g′ → Congruent P (times f g) (times f g′)
+  congruent-times-right f g g′ o c =
+      congruent-trans (times f g) (bind f (λ x. around x g [])) (times f g′) (congruent-equal (times f g) (bind f (λ x. around x g [])) (times-left f g))
+      (congruent-trans (bind f (λ x. around x g [])) (bind f (λ x. around x g′ [])) (times f g′)
+      (congruent-each f (λ x. around x g []) (λ x. around x g′ []) (λ x h. congruent-around x [] (o x h) tt g g′ c))
+      (congruent-equal (bind f (λ x. around x g′ [])) (times f g′) (λ φ. sym (times-left f g′ φ))))
+
+  pub congruent-times : (f f′ g g′ : FreeSum R) → OverSum (P .n) f′ → OverSum (P .n) g → Congruent P f f′ → Congruent P g g′ → Congruent P (times f g) (times f′ g′)
+  congruent-times f f′ g g′ of og c d = congruent-trans (times f g) (times f′ g) (times f′ g′) (congruent-times-left f f′ g og c) (congruent-times-right f′ g g′ of d)
