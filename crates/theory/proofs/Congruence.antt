@@ -108,6 +108,12 @@ module _ {R : CommutativeRing} (P : Relations R) where
       (λ φ. eval-negate f φ ∙ ap (R .neg) (congruent-eval f g c φ) ∙ ring.neg-add R _ _
       ∙ ap₂ (R .add) (sym (eval-negate g φ)) (sym (combination-times (R .neg (R .one)) (c .by) φ ∙ ring.neg-one-mul R _)))
 
+  pub congruent-difference : (f g : FreeSum R) → Congruent P f g → Congruent P (f ++ negate g) []
+  congruent-difference f g c =
+      of-eval (f ++ negate g) [] (c .by)
+      (λ φ. eval-append f (negate g) φ ∙ ap₂ (R .add) (congruent-eval f g c φ) (eval-negate g φ)
+      ∙ ap (λ x. R .add x (R .neg (eval g φ))) (ring.add-comm R _ _) ∙ ring.cancel R _ _ ∙ sym (ap (λ x. R .add x (eval (combination P (c .by)) φ)) (eval-nil R φ) ∙ ring.zero-add R _))
+
   -- a word is congruent to what it comes to when it is rewritten
   pub congruent-relator : (u : Word) (j i : ℕ) (v : Word) → Pair (P .n) j i → Over (P .n) u → Over (P .n) v
       → Congruent P (single (place u (j ∷ i ∷ []) v)) (around u (rhs P j i) v)

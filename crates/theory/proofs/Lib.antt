@@ -5,3 +5,10 @@ pub mod Words
 pub mod Relations
 pub mod NormalForm
 pub mod Congruence
+pub mod Overlaps
+pub mod Diamond
+pub mod Basis
+pub mod Standard
+pub mod Rewriting
+pub mod Standardise
+pub mod Ends

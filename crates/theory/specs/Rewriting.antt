@@ -1,10 +1,15 @@
 -- Rewriting: an inversion in a term of a free sum is replaced by its relation, one after another.
 use mathlib.Core.Path.{_≡_}
+use mathlib.Core.List.{_++_}
 use Rattle.theory.specs.Ring.{CommutativeRing}
 use Rattle.theory.specs.FreeSum.{Word, place, FreeSum, Occurs, coeff, _≈_, single, scale, negate, around}
 use Rattle.theory.specs.Words.{Standard, Over, Inversion, AllStandard}
 use Rattle.theory.specs.Relations.{Relations, rhs}
-use mathlib.Core.List.{_++_}
+
+module _ {R : CommutativeRing} where
+  -- nothing is left to rewrite: each word that is not standard has the coefficient zero
+  abbrev pub Ended : FreeSum R → Type 0
+  Ended g = (w : Word) → ¬ Standard w → coeff g w ≡ R .zero
 
 module _ {R : CommutativeRing} (P : Relations R) where
   -- what the word comes to when it is rewritten at r
@@ -47,10 +52,6 @@ module _ {R : CommutativeRing} (P : Relations R) where
   abbrev pub AllWhole : {f g : FreeSum R} → Rewriting f g → Type 0
   AllWhole (done e) = Unit {0}
   AllWhole (then s t) = Whole s × AllWhole t
-
-  -- nothing is left to rewrite: each word that is not standard has the coefficient zero
-  abbrev pub Ended : FreeSum R → Type 0
-  Ended g = (w : Word) → ¬ Standard w → coeff g w ≡ R .zero
 
   -- a rewriting of f, by whole steps, that ends in standard words
   pub record Standardised (f : FreeSum R) : Type 0 where
