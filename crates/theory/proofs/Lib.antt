@@ -12,3 +12,4 @@ pub mod Standard
 pub mod Rewriting
 pub mod Standardise
 pub mod Ends
+pub mod Terminates
