@@ -86,6 +86,22 @@ eval-single R w φ = ring.add-zero R _ ∙ ring.one-mul R (φ w)
 unfoldable pub indicator : (R : CommutativeRing) → Word → Word → R .carrier
 indicator R w x = when R (word-eq x w) (R .one)
 
+pub indicator-same : (R : CommutativeRing) (w x : Word) → x ≡ w → indicator R w x ≡ R .one
+unfolding indicator
+indicator-same R w x e = go (word-eq x w)
+  where
+    go : (d : Dec (x ≡ w)) → when R d (R .one) ≡ R .one
+    go (yes _) = refl
+    go (no n) = absurd (n e)
+
+pub indicator-other : (R : CommutativeRing) (w x : Word) → ¬ (x ≡ w) → indicator R w x ≡ R .zero
+unfolding indicator
+indicator-other R w x n = go (word-eq x w)
+  where
+    go : (d : Dec (x ≡ w)) → when R d (R .one) ≡ R .zero
+    go (yes e) = absurd (n e)
+    go (no _) = refl
+
 module _ {R : CommutativeRing} where
   -- a collected coefficient is a value of eval
   pub coeff-eval : (f : FreeSum R) (w : Word) → coeff f w ≡ eval f (indicator R w)
@@ -155,6 +171,12 @@ module _ {R : CommutativeRing} where
   occurs-words [] t o = o
   occurs-words (e ∷ f) t (inl p) = inl p
   occurs-words (e ∷ f) t (inr o) = inr (occurs-words f t o)
+
+  pub words-occur : (f : FreeSum R) (t : Word) → Listed t (words f) → Occurs t f
+  unfolding words
+  words-occur [] t l = l
+  words-occur (e ∷ f) t (inl p) = inl p
+  words-occur (e ∷ f) t (inr l) = inr (words-occur f t l)
 
   -- a sum without terms
   eval-none : (f : FreeSum R) → ((t : Word) → Occurs t f → ⊥) → (φ : Word → R .carrier) → eval f φ ≡ R .zero

@@ -11,7 +11,7 @@ use Rattle.theory.specs.Words.{Inversion}
 use Rattle.theory.specs.Relations.{Relations}
 use Rattle.theory.specs.Rewriting.{replaced, Below, below-one, rewritten, Active}
 use Rattle.theory.proofs.RingLaws as ring
-use Rattle.theory.proofs.Eval.{eval, indicator, coeff-eval, Listed, words, occurs-words}
+use Rattle.theory.proofs.Eval.{eval, indicator, indicator-same, indicator-other, coeff-eval, Listed, words, occurs-words, words-occur}
 use Rattle.theory.proofs.NormalForm.{eval-replaced, occurs-replaced}
 use Rattle.theory.proofs.Rewriting.{eval-rewritten}
 
@@ -39,6 +39,39 @@ listed-left t (u ∷ us) vs (inr l) = inr (listed-left t us vs l)
 listed-right : (t : Word) (us vs : List Word) → Listed t vs → Listed t (us ++ vs)
 listed-right t [] vs l = l
 listed-right t (u ∷ us) vs l = inr (listed-right t us vs l)
+
+-- the words of a list other than w
+drop-if : {A : Type 0} → Dec A → Word → List Word → List Word
+drop-if (yes _) x ws = ws
+drop-if (no _) x ws = x ∷ ws
+
+without : Word → List Word → List Word
+without w [] = []
+without w (x ∷ ws) = drop-if (word-eq x w) x (without w ws)
+
+listed-without : (w t : Word) (ws : List Word) → Listed t (without w ws) → Listed t ws × ¬ (t ≡ w)
+unfolding without drop-if
+listed-without w t [] l = absurd l
+listed-without w t (x ∷ ws) l = go (listed-without w t ws) (word-eq x w) l
+  where
+    later : Listed t ws × ¬ (t ≡ w) → Listed t (x ∷ ws) × ¬ (t ≡ w)
+    later k = (inr (k .0), k .1)
+
+    go : (Listed t (without w ws) → Listed t ws × ¬ (t ≡ w)) → (d : Dec (x ≡ w)) → Listed t (drop-if d x (without w ws)) → Listed t (x ∷ ws) × ¬ (t ≡ w)
+    go rest (yes _) l = later (rest l)
+    go rest (no n) (inl p) = (inl p, λ q. n (sym p ∙ q))
+    go rest (no n) (inr l) = later (rest l)
+
+without-listed : (w t : Word) (ws : List Word) → ¬ (t ≡ w) → Listed t ws → Listed t (without w ws)
+unfolding without drop-if
+without-listed w t [] n l = absurd l
+without-listed w t (x ∷ ws) n l = go (without-listed w t ws n) (word-eq x w) l
+  where
+    go : (Listed t ws → Listed t (without w ws)) → (d : Dec (x ≡ w)) → Listed t (x ∷ ws) → Listed t (drop-if d x (without w ws))
+    go rest (yes e) (inl p) = absurd (n (p ∙ e))
+    go rest (yes e) (inr l) = rest l
+    go rest (no _) (inl p) = inl p
+    go rest (no _) (inr l) = inr (rest l)
 
 -- a list of words of two sorts, sorted
 record Parted (A B : Word → Type 0) (ws : List Word) : Type 0 where
@@ -150,3 +183,61 @@ module _ {R : CommutativeRing} (P : Relations R) where
   coeff-rewritten f a {w} r t =
       coeff-eval (rewritten P f a r) t ∙ eval-rewritten P f a r (indicator R t)
       ∙ ap₂ (λ x y. R .add x (R .add (R .neg (R .mul a (indicator R t w))) (R .mul a y))) (sym (coeff-eval f t)) (sym (coeff-eval (replaced P r) t ∙ eval-replaced P r (indicator R t)))
+
+  -- after a whole step at w, the words that may have a coefficient are others than w, and what w comes to
+  module _ {f g : FreeSum R} (s : Active P g f) (ws : List Word) (supports : Supports ws f) where
+    w : Word
+    w = s .step .word
+
+    a : R .carrier
+    a = s .step .part
+
+    after : List Word
+    after = without w ws ++ words (replaced P (s .step .inversion))
+
+    after-lowered : Lowered P after ws
+    unfolding after w
+    after-lowered = record { word = w; listed = here (listed? w ws); each = λ t l. each t (listed-append t (without w ws) (words (replaced P (s .step .inversion))) l) }
+      where
+        here : Dec (Listed w ws) → Listed w ws
+        here (yes l) = l
+        here (no n) = absurd (s .present (supports w n))
+
+        each : (t : Word) → Listed t (without w ws) ⊎ Listed t (words (replaced P (s .step .inversion))) → (Listed t ws × ¬ (t ≡ w)) ⊎ Below P t w
+        each t (inl l) = inl (listed-without w t ws l)
+        each t (inr l) = inr (below-one (occurs-replaced P (s .step .inversion) t (words-occur (replaced P (s .step .inversion)) t l)))
+
+    after-supports : Supports after g
+    unfolding after w a
+    after-supports t n =
+        s .step .becomes t
+        ∙ coeff-rewritten f a (s .step .inversion) t
+        ∙ ap (λ x. R .add (coeff f t) (R .add (R .neg (R .mul a (indicator R t w))) (R .mul a x))) (coeff-absent t new (λ o. n (listed-right t (without w ws) (words new) (occurs-words new t o))))
+        ∙ go (word-eq w t)
+      where
+        new : FreeSum R
+        new = replaced P (s .step .inversion)
+
+        go : Dec (w ≡ t) → R .add (coeff f t) (R .add (R .neg (R .mul a (indicator R t w))) (R .mul a (R .zero))) ≡ R .zero
+        go (yes e) =
+            ap₂ (λ x y. R .add x (R .add (R .neg (R .mul a y)) (R .mul a (R .zero)))) (sym (s .whole ∙ ap (coeff f) e)) (indicator-same R t w e)
+            ∙ ap₂ (λ x y. R .add a (R .add (R .neg x) y)) (ring.mul-one R a) (ring.mul-zero R a)
+            ∙ ap (R .add a) (ring.add-zero R (R .neg a)) ∙ ring.add-neg R a
+        go (no m) =
+            let gone : ¬ Listed t ws = λ l. n (listed-left t (without w ws) (words new) (without-listed w t ws (λ p. m (sym p)) l)) in
+            ap₂ (λ x y. R .add x (R .add (R .neg (R .mul a y)) (R .mul a (R .zero)))) (supports t gone) (indicator-other R t w m)
+            ∙ ap (λ x. R .add (R .zero) (R .add (R .neg x) x)) (ring.mul-zero R a)
+            ∙ ring.zero-add R _ ∙ ring.neg-add-self R (R .zero)
+
+  active-acc : {ws : List Word} → Acc (Lowered P) ws → (f : FreeSum R) → Supports ws f → Acc (Active P) f
+  active-acc (Acc·intro ws h) f supports = Acc·intro f (λ g s. active-acc (h (after s ws supports) (after-lowered s ws supports)) g (after-supports s ws supports))
+
+  pub active-ends : WellFounded (Below P) → WellFounded (Active P)
+  active-ends ends = record { apply = λ f. active-acc (lowered-ends P ends (words f)) f (supports-words f) }
+
+  -- so there is no endless sequence
+  never : {f : FreeSum R} → Acc (Active P) f → (s : ℕ → FreeSum R) → ((k : ℕ) → Active P (s (suc k)) (s k)) → f ≡ s 0 → ⊥
+  never (Acc·intro f h) s steps e = never (h (s 1) (subst (Active P (s 1)) (sym e) (steps 0))) (λ k. s (suc k)) (λ k. steps (suc k)) refl
+
+  pub no-endless : WellFounded (Below P) → (s : ℕ → FreeSum R) → ¬ ((k : ℕ) → Active P (s (suc k)) (s k))
+  no-endless ends s steps = never (active-ends ends .apply (s 0)) s steps refl
