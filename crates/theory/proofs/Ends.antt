@@ -147,10 +147,12 @@ module _ {R : CommutativeRing} (P : Relations R) (K : Keys) (fall : TailsFall P 
           (ap inversions (r .split) ∙ inversions-swap (r .before) (r .j) (r .i) (r .after) (r .falls) ∙ ap (λ t. suc (inversions t)) (sym q))
       go x (inr o) e =
           let t = occurs-tail-of P (r .j) (r .i) x o in
-          by-tail (K .key-length y,
-          subst (λ t. Before (K .key t) (K .key w)) (sym e)
-          (subst (λ t. Before (K .key (place (r .before) x (r .after))) (K .key t)) (sym (r .split))
-          (key-place-before K (r .before) x (r .j ∷ r .i ∷ []) (r .after) (subst (Before (K .key x)) (key-swap K (r .i) (r .j)) (fall (r .j) (r .i) (t .0) x (t .1))))))
+          by-tail (
+            K .key-length y,
+            subst (λ t. Before (K .key t) (K .key w)) (sym e)
+                (subst (λ t. Before (K .key (place (r .before) x (r .after))) (K .key t)) (sym (r .split))
+                (key-place-before K (r .before) x (r .j ∷ r .i ∷ []) (r .after) (subst (Before (K .key x)) (key-swap K (r .i) (r .j)) (fall (r .j) (r .i) (t .0) x (t .1))))),
+          )
 
   by-inversions : (k : List ℕ) → ((y : Word) → Under (K .width) (K .key y) k → Acc (Reduct P) y) → (n : ℕ) (w : Word) → K .key w ≡ k → inversions w < n → Acc (Reduct P) w
   by-inversions k lower zero w e h = absurd (not-suc-le-zero h)

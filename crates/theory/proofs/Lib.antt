@@ -13,3 +13,4 @@ pub mod Rewriting
 pub mod Standardise
 pub mod Ends
 pub mod Terminates
+pub mod Theorems

@@ -84,6 +84,15 @@ module _ {R : CommutativeRing} (P : Relations R) (ends : WellFounded (Below P)) 
   unfolding NF
   eval-NF f φ = eval-bind f (nf P ends) φ
 
+  pub NF-single : (w : Word) → NF P ends (single w) ≈ nf P ends w
+  NF-single w = ≈-of-eval (NF P ends (single w)) (nf P ends w) (λ φ. eval-NF (single w) φ ∙ eval-single R w (λ x. eval (nf P ends x) φ))
+
+  pub NF-replaced-first : (w : Word) (r : Inversion w) → First w r → NF P ends (single w) ≈ NF P ends (replaced P r)
+  NF-replaced-first w r h =
+      ≈-of-eval (NF P ends (single w)) (NF P ends (replaced P r))
+      (λ φ. eval-NF (single w) φ ∙ eval-single R w (λ x. eval (nf P ends x) φ) ∙ ap (λ f. eval f φ) (nf-first w r h) ∙ eval-nf-replaced P ends r φ
+      ∙ sym (eval-NF (replaced P r) φ ∙ eval-replaced P r (λ x. eval (nf P ends x) φ)))
+
   -- equal sums have equal normal forms
   pub NF-≈ : (f g : FreeSum R) → f ≈ g → NF P ends f ≈ NF P ends g
   NF-≈ f g h = ≈-of-eval (NF P ends f) (NF P ends g) (λ φ. eval-NF f φ ∙ eval-≈ f g h (λ w. eval (nf P ends w) φ) ∙ sym (eval-NF g φ))

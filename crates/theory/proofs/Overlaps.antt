@@ -50,11 +50,11 @@ module _ {R : CommutativeRing} (P : Relations R) where
 
   eval-nondegeneracy : (i j k : ℕ) (φ : Word → R .carrier) → eval (nondegeneracy P i j k) φ
       ≡ R .add (R .mul (R .mul (P .factor k i) (P .factor k j)) (eval (P .tail j i) (λ x. φ (place [] x (k ∷ [])))))
-          (R .add (R .neg (eval (P .tail j i) (λ x. φ (place (k ∷ []) x []))))
-          (R .add (R .mul (P .factor k j) (eval (P .tail k i) (λ x. φ (place (j ∷ []) x []))))
-          (R .add (R .neg (R .mul (P .factor j i) (eval (P .tail k i) (λ x. φ (place [] x (j ∷ []))))))
-          (R .add (eval (P .tail k j) (λ x. φ (place [] x (i ∷ []))))
-          (R .neg (R .mul (R .mul (P .factor j i) (P .factor k i)) (eval (P .tail k j) (λ x. φ (place (i ∷ []) x [])))))))))
+      (R .add (R .neg (eval (P .tail j i) (λ x. φ (place (k ∷ []) x []))))
+      (R .add (R .mul (P .factor k j) (eval (P .tail k i) (λ x. φ (place (j ∷ []) x []))))
+      (R .add (R .neg (R .mul (P .factor j i) (eval (P .tail k i) (λ x. φ (place [] x (j ∷ []))))))
+      (R .add (eval (P .tail k j) (λ x. φ (place [] x (i ∷ []))))
+      (R .neg (R .mul (R .mul (P .factor j i) (P .factor k i)) (eval (P .tail k j) (λ x. φ (place (i ∷ []) x [])))))))))
   unfolding nondegeneracy
   eval-nondegeneracy i j k φ = simp (eval-append, eval-scale, eval-negate, eval-around, ring.add-assoc R)
 

@@ -7,3 +7,4 @@ pub mod Basis
 pub mod Rewriting
 pub mod NormalForm
 pub mod Keys
+pub mod Theorems
