@@ -17,9 +17,9 @@ use Rattle.theory.proofs.Eval.{eval, eval-nil, eval-append, eval-bind, ≈-of-
 use Rattle.theory.proofs.Occurs.{occurs-append, occurs-negate, occurs-around, occurs-bind}
 use Rattle.theory.proofs.Words.{over-place, over-place-join}
 use Rattle.theory.proofs.Relations.{upper, lower, pair-ji, pair-kj, rhs-over, reduct-over, inversion-pair}
-use Rattle.theory.proofs.NormalForm.{Unfolds, stands, falls, nf-unfolds, nf-words, eval-NF, NF-standard, NF-of-standard, eval-replaced, eval-nf-replaced, occurs-replaced}
+use Rattle.theory.proofs.NormalForm.{value, Unfolds, stands, falls, nf-unfolds, nf-words, eval-NF, NF-standard, NF-of-standard, eval-replaced, eval-nf-replaced, occurs-replaced}
 use Rattle.theory.proofs.Congruence.{eval-multiple, congruent-eval, congruent-equal, congruent-sym, congruent-trans, congruent-difference, congruent-relator, congruent-bind}
-use Rattle.theory.proofs.Diamond.{value, value-at, diamond}
+use Rattle.theory.proofs.Diamond.{value-at, diamond}
 
 module _ {R : CommutativeRing} (P : Relations R) (ends : WellFounded (Below P)) (tails : TailsOver P) where
   -- a word in the letters 1 to n, and a sum of such words, is congruent to its normal form

@@ -13,23 +13,20 @@ use Rattle.theory.proofs.RingLaws as ring
 use Rattle.theory.proofs.Eval.{eval, eval-single, eval-cong, eval-exchange, eval-nil, eval-≈, ≈-of-eval}
 use Rattle.theory.proofs.Words.{place-place, place-after, place-next, place-last, place-shift, within, standard-no-inversion, Right, shared, apart, Lie, same, right, left, places-lie}
 use Rattle.theory.proofs.Relations.{inversion-pair, reduct-over, reduct-below, below-over}
-use Rattle.theory.proofs.NormalForm.{eval-replaced, eval-nf-replaced, Unfolds, stands, falls, nf-unfolds, eval-NF}
+use Rattle.theory.proofs.NormalForm.{value, eval-replaced, eval-nf-replaced, Unfolds, stands, falls, nf-unfolds, eval-NF}
 use Rattle.theory.proofs.Overlaps.{eval-overlap}
 
 module _ {R : CommutativeRing} (P : Relations R) (ends : WellFounded (Below P)) (φ : Word → R .carrier) where
-  -- the value of a word's normal form; and the value of u x_j x_i v rewritten at j i
-  unfoldable pub value : Word → R .carrier
-  value w = eval (nf P ends w) φ
-
+  -- the value of u x_j x_i v rewritten at j i
   unfoldable pub value-at : Word → ℕ → ℕ → Word → R .carrier
-  value-at u j i v = eval (rhs P j i) (λ x. value (place u x v))
+  value-at u j i v = eval (rhs P j i) (λ x. value P ends φ (place u x v))
 
   abbrev pub value-on : {w : Word} → Inversion w → R .carrier
   value-on r = value-at (r .before) (r .j) (r .i) (r .after)
 
   -- the value of w can be had by rewriting it at any inversion
   abbrev pub Agrees : Word → Type 0
-  Agrees w = Over (P .n) w → (r : Inversion w) → value w ≡ value-on r
+  Agrees w = Over (P .n) w → (r : Inversion w) → value P ends φ w ≡ value-on r
 
 module _ {R : CommutativeRing} (P : Relations R) (ends : WellFounded (Below P)) (tails : TailsOver P) (φ : Word → R .carrier) (w : Word) (smaller : (y : Word) → Below P y w → Agrees P ends φ y) (over : Over (P .n) w) where
   -- the words that w comes to at r

@@ -14,3 +14,4 @@ pub mod Standardise
 pub mod Ends
 pub mod Terminates
 pub mod Theorems
+pub mod Examples

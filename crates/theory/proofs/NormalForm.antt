@@ -19,6 +19,10 @@ module _ {R : CommutativeRing} where
   bind-in-bind [] k = refl
   bind-in-bind (e ∷ f) k = ap (λ g. scale (e .coef) (k (e .word)) ++ g) (bind-in-bind f k)
 
+-- the value of a word's normal form
+unfoldable pub value : {R : CommutativeRing} (P : Relations R) → WellFounded (Below P) → (Word → R .carrier) → Word → R .carrier
+value P ends φ w = eval (nf P ends w) φ
+
 -- the value of what a word comes to when it is rewritten at r
 abbrev pub eval-at : {R : CommutativeRing} (P : Relations R) {w : Word} → Inversion w → (Word → R .carrier) → R .carrier
 eval-at P r φ = eval (rhs P (r .j) (r .i)) (λ x. φ (place (r .before) x (r .after)))

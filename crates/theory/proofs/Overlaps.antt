@@ -13,7 +13,7 @@ use Rattle.theory.specs.NormalForm.{nf, NF}
 use Rattle.theory.proofs.RingLaws as ring
 use Rattle.theory.proofs.Eval.{eval, eval-append, eval-scale, eval-negate, eval-around, ≈-of-eval}
 use Rattle.theory.proofs.Relations.{rhs-pair, pair-ji, pair-kj, pair-ki}
-use Rattle.theory.proofs.NormalForm.{eval-nf-replaced, nf-first, eval-NF}
+use Rattle.theory.proofs.NormalForm.{value, eval-nf-replaced, nf-first, eval-NF}
 
 -- the two ways of x_k x_j x_i to x_i x_j x_k meet, and what is left of their difference are the tails
 module _ (R : CommutativeRing) where
@@ -48,7 +48,7 @@ module _ {R : CommutativeRing} (P : Relations R) where
       let g = around (k ∷ []) (rhs P j i) [] in
       eval-append f (negate g) φ ∙ ap₂ (R .add) (eval-around [] (rhs P k j) (i ∷ []) φ) (eval-negate g φ ∙ ap (R .neg) (eval-around (k ∷ []) (rhs P j i) [] φ))
 
-  eval-nondegeneracy : (i j k : ℕ) (φ : Word → R .carrier) → eval (nondegeneracy P i j k) φ
+  pub eval-nondegeneracy : (i j k : ℕ) (φ : Word → R .carrier) → eval (nondegeneracy P i j k) φ
       ≡ R .add (R .mul (R .mul (P .factor k i) (P .factor k j)) (eval (P .tail j i) (λ x. φ (place [] x (k ∷ [])))))
       (R .add (R .neg (eval (P .tail j i) (λ x. φ (place (k ∷ []) x []))))
       (R .add (R .mul (P .factor k j) (eval (P .tail k i) (λ x. φ (place (j ∷ []) x []))))
@@ -59,53 +59,53 @@ module _ {R : CommutativeRing} (P : Relations R) where
   eval-nondegeneracy i j k φ = simp (eval-append, eval-scale, eval-negate, eval-around, ring.add-assoc R)
 
 module _ {R : CommutativeRing} (P : Relations R) (ends : WellFounded (Below P)) (φ : Word → R .carrier) where
-  value : Word → R .carrier
-  value w = eval (nf P ends w) φ
+  abbrev N : Word → R .carrier
+  N = value P ends φ
 
-  value-leftmost : (u : Word) (j i : ℕ) (v : Word) → Pair (P .n) j i → Standard (u ++ (j ∷ []))
-      → value (place u (j ∷ i ∷ []) v) ≡ R .add (R .mul (P .factor j i) (value (place u (i ∷ j ∷ []) v))) (eval (P .tail j i) (λ x. value (place u x v)))
+  pub value-leftmost : (u : Word) (j i : ℕ) (v : Word) → Pair (P .n) j i → Standard (u ++ (j ∷ []))
+      → N (place u (j ∷ i ∷ []) v) ≡ R .add (R .mul (P .factor j i) (N (place u (i ∷ j ∷ []) v))) (eval (P .tail j i) (λ x. N (place u x v)))
   unfolding value
   value-leftmost u j i v p s =
       let r : Inversion (place u (j ∷ i ∷ []) v) = record { before = u; j = j; i = i; after = v; split = refl; falls = p .falls } in
-      ap (λ f. eval f φ) (nf-first P ends (place u (j ∷ i ∷ []) v) r s) ∙ eval-nf-replaced P ends r φ ∙ eval-rhs P j i p (λ x. value (place u x v))
+      ap (λ f. eval f φ) (nf-first P ends (place u (j ∷ i ∷ []) v) r s) ∙ eval-nf-replaced P ends r φ ∙ eval-rhs P j i p (λ x. N (place u x v))
 
   module _ (i j k : ℕ) (t : Triple (P .n) i j k) where
     -- the value of a tail with a letter on its right or on its left
     right-of : FreeSum R → ℕ → R .carrier
-    right-of f x = eval f (λ w. value (place [] w (x ∷ [])))
+    right-of f x = eval f (λ w. N (place [] w (x ∷ [])))
 
     left-of : ℕ → FreeSum R → R .carrier
-    left-of x f = eval f (λ w. value (place (x ∷ []) w []))
+    left-of x f = eval f (λ w. N (place (x ∷ []) w []))
 
     -- x_j x_k x_i, rewritten twice; and x_k x_i x_j
-    first-way : value (j ∷ k ∷ i ∷ []) ≡ R .add (R .mul (P .factor k i) (R .add (R .mul (P .factor j i) (value (i ∷ j ∷ k ∷ []))) (right-of (P .tail j i) k))) (left-of j (P .tail k i))
+    first-way : N (j ∷ k ∷ i ∷ []) ≡ R .add (R .mul (P .factor k i) (R .add (R .mul (P .factor j i) (N (i ∷ j ∷ k ∷ []))) (right-of (P .tail j i) k))) (left-of j (P .tail k i))
     unfolding place right-of left-of
     first-way =
         value-leftmost (j ∷ []) k i [] (pair-ki t) (omega arith, tt)
         ∙ ap (λ y. R .add (R .mul (P .factor k i) y) (left-of j (P .tail k i))) (value-leftmost [] j i (k ∷ []) (pair-ji t) tt)
 
-    second-way : value (k ∷ i ∷ j ∷ []) ≡ R .add (R .mul (P .factor k i) (R .add (R .mul (P .factor k j) (value (i ∷ j ∷ k ∷ []))) (left-of i (P .tail k j)))) (right-of (P .tail k i) j)
+    second-way : N (k ∷ i ∷ j ∷ []) ≡ R .add (R .mul (P .factor k i) (R .add (R .mul (P .factor k j) (N (i ∷ j ∷ k ∷ []))) (left-of i (P .tail k j)))) (right-of (P .tail k i) j)
     unfolding place right-of left-of
     second-way =
         value-leftmost [] k i (j ∷ []) (pair-ki t) tt
         ∙ ap (λ y. R .add (R .mul (P .factor k i) y) (right-of (P .tail k i) j)) (value-leftmost (i ∷ []) k j [] (pair-kj t) (omega arith, tt))
 
-    value-overlap : eval (overlap P i j k) value ≡ eval (nondegeneracy P i j k) value
+    value-overlap : eval (overlap P i j k) N ≡ eval (nondegeneracy P i j k) N
     unfolding place right-of left-of
     value-overlap =
         let a = P .factor k j in
         let b = P .factor k i in
         let c = P .factor j i in
-        let n = value (i ∷ j ∷ k ∷ []) in
-        eval-overlap P i j k value
+        let n = N (i ∷ j ∷ k ∷ []) in
+        eval-overlap P i j k N
         ∙ ap₂ (λ x y. R .add x (R .neg y))
-        (eval-rhs P k j (pair-kj t) (λ x. value (place [] x (i ∷ []))) ∙ ap (λ y. R .add (R .mul a y) (right-of (P .tail k j) i)) first-way)
-        (eval-rhs P j i (pair-ji t) (λ x. value (place (k ∷ []) x [])) ∙ ap (λ y. R .add (R .mul c y) (left-of k (P .tail j i))) second-way)
+        (eval-rhs P k j (pair-kj t) (λ x. N (place [] x (i ∷ []))) ∙ ap (λ y. R .add (R .mul a y) (right-of (P .tail k j) i)) first-way)
+        (eval-rhs P j i (pair-ji t) (λ x. N (place (k ∷ []) x [])) ∙ ap (λ y. R .add (R .mul c y) (left-of k (P .tail j i))) second-way)
         ∙ ap₂ (λ x y. R .add (R .add x (right-of (P .tail k j) i)) (R .neg (R .add y (left-of k (P .tail j i)))))
         (along R a b c n (right-of (P .tail j i) k) (left-of j (P .tail k i)))
         (along R c b a n (left-of i (P .tail k j)) (right-of (P .tail k i) j) ∙ ap₂ (R .add) (turn R a b c n) (ap (λ y. R .add (R .mul y (left-of i (P .tail k j))) (R .mul c (right-of (P .tail k i) j))) (ring.mul-comm R b c)))
         ∙ meet R _ _ _ _ _ _ _
-        ∙ sym (eval-nondegeneracy P i j k value)
+        ∙ sym (eval-nondegeneracy P i j k N)
 
 pub overlap-nondegeneracy : {R : CommutativeRing} (P : Relations R) (ends : WellFounded (Below P)) (i j k : ℕ) → Triple (P .n) i j k
     → NF P ends (overlap P i j k) ≈ NF P ends (nondegeneracy P i j k)

@@ -15,8 +15,8 @@ use Rattle.theory.proofs.Words.{over-place}
 use Rattle.theory.proofs.Relations.{inversion-pair}
 use Rattle.theory.proofs.Congruence.{congruent-≈, congruent-equal, congruent-sym, congruent-trans, congruent-append, congruent-scale, congruent-relator}
 use Rattle.theory.proofs.Standard.{only-standard, only-standard-standard, ended-only-standard}
-use Rattle.theory.proofs.NormalForm.{eval-at, eval-replaced, eval-NF, NF-≈, NF-of-standard}
-use Rattle.theory.proofs.Diamond.{value, value-at, diamond}
+use Rattle.theory.proofs.NormalForm.{value, eval-at, eval-replaced, eval-NF, NF-≈, NF-of-standard}
+use Rattle.theory.proofs.Diamond.{value-at, diamond}
 
 module _ {R : CommutativeRing} (P : Relations R) where
   pub eval-rewritten : (f : FreeSum R) (a : R .carrier) {w : Word} (r : Inversion w) (φ : Word → R .carrier)

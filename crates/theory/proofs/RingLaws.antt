@@ -33,6 +33,9 @@ module _ (R : CommutativeRing) where
   pub neg-add-self : (a : carrier) → add (neg a) a ≡ zero
   neg-add-self a = add-comm R (neg a) a ∙ add-neg R a
 
+  pub add-neg-left : (a b : carrier) → add a (add (neg a) b) ≡ b
+  add-neg-left a b = sym (add-assoc R a (neg a) b) ∙ ap (λ x. add x b) (add-neg R a) ∙ zero-add b
+
   pub eq-of-sub : (a b : carrier) → add a (neg b) ≡ zero → a ≡ b
   eq-of-sub a b e = add-cancel a b (neg b) (e ∙ sym (add-neg R b))
 
@@ -44,6 +47,9 @@ module _ (R : CommutativeRing) where
 
   pub neg-zero : neg zero ≡ zero
   neg-zero = sym (zero-add (neg zero)) ∙ add-neg R zero
+
+  pub neg-neg : (a : carrier) → neg (neg a) ≡ a
+  neg-neg a = add-cancel (neg (neg a)) a (neg a) (neg-add-self (neg a) ∙ sym (add-neg R a))
 
   pub neg-add : (a b : carrier) → neg (add a b) ≡ add (neg a) (neg b)
   neg-add a b =

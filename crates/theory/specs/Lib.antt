@@ -8,3 +8,4 @@ pub mod Rewriting
 pub mod NormalForm
 pub mod Keys
 pub mod Theorems
+pub mod Examples

@@ -4,6 +4,7 @@ ghost use Rattle.theory.specs.Ring.{CommutativeRing};
 ghost use Rattle.theory.specs.Theorems.{Ends-by-keys, Normal-forms, Diamond-lemma, Basis-iff-resolves, Overlap-is-nondegeneracy};
 ghost use Rattle.theory.specs.Theorems.{Rewriting-is-congruent, Rewriting-ends-at-normal-form, Rewriting-exists, No-endless-rewriting};
 ghost use Rattle.theory.specs.Theorems.{Operations-respect-congruence};
+ghost use Rattle.theory.specs.Examples.{Weyl-resolves, Sl2-resolves, Halved-sl2};
 
 // The ring that coefficients are in.
 pub trait Coefficients {
@@ -56,4 +57,18 @@ pub fn no_rewriting_goes_on_for_ever<C: Coefficients>()
 
 pub fn operations_respect_congruence<C: Coefficients>()
     ensures { λ _. ⌜ Operations-respect-congruence ring ⌝ }
+{}
+
+// Examples.
+
+pub fn weyl_algebra_resolves<C: Coefficients>()
+    ensures { λ _. ⌜ Weyl-resolves ring ⌝ }
+{}
+
+pub fn sl2_resolves<C: Coefficients>()
+    ensures { λ _. ⌜ Sl2-resolves ring ⌝ }
+{}
+
+pub fn halved_sl2_does_not_resolve<C: Coefficients>()
+    ensures { λ _. ⌜ Halved-sl2 ring ⌝ }
 {}
