@@ -6,14 +6,15 @@ use mathlib.Core.WellFounded.{WellFounded, recursion}
 use Prim.Native.Nat.{ℕ}
 use Rattle.theory.specs.Ring.{CommutativeRing}
 use Rattle.theory.specs.FreeSum.{Word, place, FreeSum, Occurs, _≈_, single, negate, around, bind}
-use Rattle.theory.specs.Words.{Over, Inversion, OverSum, AllStandard}
-use Rattle.theory.specs.Relations.{Relations, Pair, Triple, TailsOver, rhs, overlap}
+use Rattle.theory.specs.Words.{Over, Inversion, OverSum}
+use Rattle.theory.specs.Relations.{Relations, Pair, TailsOver, rhs, overlap}
 use Rattle.theory.specs.Congruence.{Multiple, multiple, combination, Congruent}
 use Rattle.theory.specs.Basis.{StandardForm, Basis}
 use Rattle.theory.specs.Rewriting.{replaced, Below, below-one}
 use Rattle.theory.specs.NormalForm.{nf, NF, Resolves}
 use Rattle.theory.proofs.RingLaws as ring
-use Rattle.theory.proofs.Eval.{eval, eval-nil, eval-append, eval-bind, ≈-of-eval}
+use Rattle.theory.proofs.Eval.{eval, eval-nil, eval-append, eval-bind}
+use Rattle.theory.proofs.Equality.{≈-of-eval}
 use Rattle.theory.proofs.Occurs.{occurs-append, occurs-negate, occurs-around, occurs-bind}
 use Rattle.theory.proofs.Words.{over-place, over-place-join}
 use Rattle.theory.proofs.Relations.{upper, lower, pair-ji, pair-kj, rhs-over, reduct-over, inversion-pair}

@@ -9,7 +9,8 @@ use Rattle.theory.specs.Words.{Over, OverSum}
 use Rattle.theory.specs.Relations.{Relations, Pair, rhs, relator}
 use Rattle.theory.specs.Congruence.{Multiple, multiple, combination, Congruent}
 use Rattle.theory.proofs.RingLaws as ring
-use Rattle.theory.proofs.Eval.{eval, eval-nil, eval-append, eval-single, eval-scale, eval-negate, eval-around, eval-bind, eval-times, eval-exchange, eval-≈, ≈-of-eval}
+use Rattle.theory.proofs.Eval.{eval, eval-nil, eval-append, eval-single, eval-scale, eval-negate, eval-around, eval-bind, eval-times, eval-exchange}
+use Rattle.theory.proofs.Equality.{eval-≈, ≈-of-eval}
 use Rattle.theory.proofs.Words.{over-join, place-place}
 
 module _ {R : CommutativeRing} where

@@ -10,7 +10,8 @@ use Rattle.theory.specs.Relations.{Relations, TailsOver, rhs, overlap}
 use Rattle.theory.specs.Rewriting.{replaced, Reduct, Below, below-one}
 use Rattle.theory.specs.NormalForm.{nf, NF, Resolves}
 use Rattle.theory.proofs.RingLaws as ring
-use Rattle.theory.proofs.Eval.{eval, eval-single, eval-cong, eval-exchange, eval-nil, eval-≈, ≈-of-eval}
+use Rattle.theory.proofs.Eval.{eval, eval-single, eval-cong, eval-exchange, eval-nil}
+use Rattle.theory.proofs.Equality.{eval-≈, ≈-of-eval}
 use Rattle.theory.proofs.Words.{place-place, place-after, place-next, place-last, place-shift, within, standard-no-inversion, Right, shared, apart, Lie, same, right, left, places-lie}
 use Rattle.theory.proofs.Relations.{inversion-pair, reduct-over, reduct-below, below-over}
 use Rattle.theory.proofs.NormalForm.{value, eval-replaced, eval-nf-replaced, Unfolds, stands, falls, nf-unfolds, eval-NF}

@@ -1,24 +1,24 @@
 -- The examples: by degree, rewriting ends; the non-degeneracy condition gives the overlaps.
 use mathlib.Core.Path.{_≡_, refl, sym, ap, ap₂, subst, _∙_}
-use mathlib.Core.Logic.{_⊎_, inl, inr}
+use mathlib.Core.Logic.{inl}
 use mathlib.Core.Bool.{Bool, true, false, cond}
-use mathlib.Core.List.{List, [], _∷_, _++_}
+use mathlib.Core.List.{[], _∷_}
 use mathlib.Core.WellFounded.{WellFounded}
 use Prim.Native.Nat.{ℕ, _+_, _≤_, _<_}
 use native.Mathlib.Omega.{arith}
 use lib.Dec.{eqb}
 use lib.ListN.{length, length-append}
 use Rattle.theory.specs.Ring.{CommutativeRing}
-use Rattle.theory.specs.FreeSum.{Word, place, FreeSum, Occurs, coeff, _≈_, single, scale, negate}
-use Rattle.theory.specs.Words.{Over, OverSum}
+use Rattle.theory.specs.FreeSum.{Word, place, Occurs, coeff, _≈_, single, scale, negate}
+use Rattle.theory.specs.Words.{Over}
 use Rattle.theory.specs.Relations.{Relations, Pair, Triple, TailsOver, overlap, nondegeneracy}
-use Rattle.theory.specs.Basis.{Basis}
 use Rattle.theory.specs.Rewriting.{Below}
-use Rattle.theory.specs.NormalForm.{nf, NF, Resolves}
+use Rattle.theory.specs.NormalForm.{NF, Resolves}
 use Rattle.theory.specs.Keys.{Keys, TailsFall}
 use Rattle.theory.specs.Examples.{generator, weyl, two, sl2, halved, Weyl-resolves, Sl2-resolves, Halved-sl2}
 use Rattle.theory.proofs.RingLaws as ring
-use Rattle.theory.proofs.Eval.{eval, coeff-eval, indicator, indicator-same, eval-nil, eval-single, eval-scale, eval-negate, eval-cong, ≈-of-eval}
+use Rattle.theory.proofs.Eval.{eval, eval-nil, eval-single, eval-scale, eval-negate, eval-cong}
+use Rattle.theory.proofs.Equality.{coeff-eval, indicator, indicator-same, ≈-of-eval}
 use Rattle.theory.proofs.Occurs.{occurs-single, occurs-scale, occurs-negate}
 use Rattle.theory.proofs.NormalForm.{value, eval-NF, nf-standard, NF-≈, NF-of-standard}
 use Rattle.theory.proofs.Relations.{pair-ji}

@@ -4,12 +4,13 @@ use mathlib.Core.Logic.{_⊎_, inl, inr}
 use mathlib.Core.List.{[], _∷_, _++_}
 use mathlib.Core.WellFounded.{WellFounded, fix-eq, recursion}
 use Rattle.theory.specs.Ring.{CommutativeRing}
-use Rattle.theory.specs.FreeSum.{Word, place, FreeSum, Occurs, _≈_, single, scale, negate, around, bind}
+use Rattle.theory.specs.FreeSum.{Word, place, FreeSum, Occurs, _≈_, single, scale, negate, bind}
 use Rattle.theory.specs.Words.{Standard, Inversion, First, Leftmost, leftmost, AllStandard}
 use Rattle.theory.specs.Relations.{Relations, rhs}
 use Rattle.theory.specs.Rewriting.{replaced, Reduct, Below, below-one}
 use Rattle.theory.specs.NormalForm.{bind-in, nf-at, nf, NF}
-use Rattle.theory.proofs.Eval.{eval, eval-append, eval-scale, eval-negate, eval-around, eval-bind, eval-single, eval-cong, eval-≈, ≈-of-eval}
+use Rattle.theory.proofs.Eval.{eval, eval-append, eval-scale, eval-negate, eval-around, eval-bind, eval-single, eval-cong}
+use Rattle.theory.proofs.Equality.{eval-≈, ≈-of-eval}
 use Rattle.theory.proofs.Occurs.{occurs-around, occurs-bind, occurs-single}
 use Rattle.theory.proofs.Words.{standard-no-inversion, leftmost-same}
 

@@ -5,13 +5,14 @@ use mathlib.Core.WellFounded.{WellFounded}
 use Prim.Native.Nat.{ℕ}
 use native.Mathlib.Omega.{arith}
 use Rattle.theory.specs.Ring.{CommutativeRing}
-use Rattle.theory.specs.FreeSum.{Word, place, FreeSum, _≈_, scale, negate, around}
+use Rattle.theory.specs.FreeSum.{Word, place, FreeSum, _≈_, negate, around}
 use Rattle.theory.specs.Words.{Standard, Inversion}
 use Rattle.theory.specs.Relations.{Relations, Pair, Triple, rhs, overlap, nondegeneracy}
 use Rattle.theory.specs.Rewriting.{Below}
-use Rattle.theory.specs.NormalForm.{nf, NF}
+use Rattle.theory.specs.NormalForm.{NF}
 use Rattle.theory.proofs.RingLaws as ring
-use Rattle.theory.proofs.Eval.{eval, eval-append, eval-scale, eval-negate, eval-around, ≈-of-eval}
+use Rattle.theory.proofs.Eval.{eval, eval-append, eval-scale, eval-negate, eval-around}
+use Rattle.theory.proofs.Equality.{≈-of-eval}
 use Rattle.theory.proofs.Relations.{rhs-pair, pair-ji, pair-kj, pair-ki}
 use Rattle.theory.proofs.NormalForm.{value, eval-nf-replaced, nf-first, eval-NF}
 

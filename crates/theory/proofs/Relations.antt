@@ -5,7 +5,7 @@ use mathlib.Core.List.{[], _∷_}
 use Prim.Native.Nat.{ℕ}
 use native.Mathlib.Omega.{arith}
 use Rattle.theory.specs.Ring.{CommutativeRing}
-use Rattle.theory.specs.FreeSum.{Word, FreeSum, Occurs}
+use Rattle.theory.specs.FreeSum.{Word, Occurs}
 use Rattle.theory.specs.Words.{Letter, Over, Inversion, OverSum}
 use Rattle.theory.specs.Relations.{Relations, Pair, pair?, only, Triple, tail-of, rhs, TailsOver}
 use Rattle.theory.specs.Rewriting.{Reduct, Below, below-one, below-more}

@@ -10,7 +10,8 @@ use Rattle.theory.specs.Congruence.{Congruent}
 use Rattle.theory.specs.Rewriting.{Ended, replaced, Below, rewritten, Rewriting, done, then}
 use Rattle.theory.specs.NormalForm.{NF, Resolves}
 use Rattle.theory.proofs.RingLaws as ring
-use Rattle.theory.proofs.Eval.{eval, eval-append, eval-single, eval-scale, eval-negate, eval-≈, ≈-of-eval}
+use Rattle.theory.proofs.Eval.{eval, eval-append, eval-single, eval-scale, eval-negate}
+use Rattle.theory.proofs.Equality.{eval-≈, ≈-of-eval}
 use Rattle.theory.proofs.Words.{over-place}
 use Rattle.theory.proofs.Relations.{inversion-pair}
 use Rattle.theory.proofs.Congruence.{congruent-≈, congruent-equal, congruent-sym, congruent-trans, congruent-append, congruent-scale, congruent-relator}
@@ -39,7 +40,7 @@ module _ {R : CommutativeRing} (P : Relations R) where
   pub rewriting-value : (φ : Word → R .carrier) → ((w : Word) → Over (P .n) w → (r : Inversion w) → φ w ≡ eval-at P r φ) → {f g : FreeSum R} → Rewriting P f g → eval f φ ≡ eval g φ
   rewriting-value φ h (done {f = f} {g = g} e) = eval-≈ f g e φ
   rewriting-value φ h (then {f = f} {g = g} s t) =
-      sym (eval-≈ g (rewritten P f (s .part) (s .inversion)) (s .becomes) φ ∙ rewritten-value f (s .part) (s .inversion) φ (h (s .word) (s .over) (s .inversion)))
+      sym (eval-≈ g (rewritten P f (s .taken) (s .inversion)) (s .becomes) φ ∙ rewritten-value f (s .taken) (s .inversion) φ (h (s .word) (s .over) (s .inversion)))
       ∙ rewriting-value φ h t
 
   -- rewriting keeps the class in the quotient
@@ -75,8 +76,8 @@ module _ {R : CommutativeRing} (P : Relations R) where
   pub rewriting-congruent : {f g : FreeSum R} → Rewriting P f g → Congruent P f g
   rewriting-congruent (done {f = f} {g = g} e) = congruent-≈ P f g e
   rewriting-congruent (then {f = f} {g = g} {h = h} s t) =
-      let k = rewritten P f (s .part) (s .inversion) in
-      congruent-trans P f k h (congruent-sym P k f (rewritten-congruent f (s .part) (s .word) (s .over) (s .inversion)))
+      let k = rewritten P f (s .taken) (s .inversion) in
+      congruent-trans P f k h (congruent-sym P k f (rewritten-congruent f (s .taken) (s .word) (s .over) (s .inversion)))
       (congruent-trans P k g h (congruent-≈ P k g (λ w. sym (s .becomes w))) (rewriting-congruent t))
 
 module _ {R : CommutativeRing} (P : Relations R) (ends : WellFounded (Below P)) (tails : TailsOver P) (res : Resolves P ends) where

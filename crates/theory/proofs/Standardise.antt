@@ -9,7 +9,9 @@ use Rattle.theory.specs.Words.{Standard, Over, Inversion, Leftmost, leftmost, 
 use Rattle.theory.specs.Relations.{Relations, TailsOver, rhs}
 use Rattle.theory.specs.Rewriting.{replaced, Reduct, Below, below-one, rewritten, Rewrite, Standardised, done, then}
 use Rattle.theory.proofs.RingLaws as ring
-use Rattle.theory.proofs.Eval.{eval, eval-append, eval-scale, ≈-of-eval, remove, eval-remove, occurs-remove, Listed}
+use Rattle.theory.proofs.Eval.{eval, eval-append, eval-scale}
+use Rattle.theory.proofs.Lists.{Listed}
+use Rattle.theory.proofs.Equality.{≈-of-eval, remove, eval-remove, occurs-remove}
 use Rattle.theory.proofs.Occurs.{occurs-append, occurs-scale, occurs-around}
 use Rattle.theory.proofs.Relations.{reduct-over}
 use Rattle.theory.proofs.NormalForm.{eval-at, eval-replaced}
@@ -120,7 +122,7 @@ module _ {R : CommutativeRing} (P : Relations R) (ends : WellFounded (Below P)) 
       go (ready s) rest = rest f (λ t p. skip s t (h t p))
       go (falling over r c) rest =
           let k = rest (next f r) (next-words f r ws c h) in
-          let s : Rewrite P f (next f r) = record { word = w; over = over; inversion = r; part = coeff f w; becomes = next-≈ f r } in
+          let s : Rewrite P f (next f r) = record { word = w; over = over; inversion = r; taken = coeff f w; becomes = next-≈ f r } in
           record { sum = k .sum; standard = k .standard; rewriting = then s (k .rewriting); whole = (refl, k .whole) }
 
   pub standardise : (f : FreeSum R) → OverSum (P .n) f → Standardised P f

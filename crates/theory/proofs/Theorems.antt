@@ -1,13 +1,8 @@
 -- The theorems, each from the file that proves it.
-use mathlib.Core.Path.{_≡_, sym, ap, _∙_}
-use mathlib.Core.WellFounded.{WellFounded}
+use mathlib.Core.Path.{_∙_}
 use Rattle.theory.specs.Ring.{CommutativeRing}
-use Rattle.theory.specs.FreeSum.{Word, _≈_, single}
-use Rattle.theory.specs.Words.{Over, Inversion, First}
-use Rattle.theory.specs.Relations.{Relations, TailsOver}
-use Rattle.theory.specs.Rewriting.{replaced, Below}
-use Rattle.theory.specs.NormalForm.{nf, NF, Resolves}
-use Rattle.theory.specs.Theorems.{NormalForms, Diamond, Terminates, QuotientOperations, Normal-forms, Diamond-lemma, Basis-iff-resolves, Rewriting-is-congruent, No-endless-rewriting, Operations-respect-congruence}
+use Rattle.theory.specs.FreeSum.{_≈_}
+use Rattle.theory.specs.Theorems.{Normal-forms, Diamond-lemma, Basis-iff-resolves, Rewriting-is-congruent, No-endless-rewriting, Operations-respect-congruence}
 use Rattle.theory.proofs.NormalForm.{NF-single, NF-replaced-first, NF-of-standard, NF-standard, NF-≈, NF-append, NF-negate, NF-scale}
 use Rattle.theory.proofs.Diamond.{nf-replaced-any}
 use Rattle.theory.proofs.Basis.{NF-over, congruent-NF, NF-congruent, basis-of-resolves, resolves-of-basis}

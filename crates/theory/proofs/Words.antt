@@ -29,10 +29,6 @@ pub place-shift : (u : Word) (k j i : ℕ) (v : Word) → place u (k ∷ j ∷ [
 unfolding place
 place-shift u k j i v = simp append-assoc
 
-pub place-three : (u : Word) (k j i : ℕ) (v : Word) → place u (k ∷ j ∷ []) (i ∷ v) ≡ place u (k ∷ j ∷ i ∷ []) v
-unfolding place
-place-three u k j i v = refl
-
 -- an inversion of z is one of u z v
 unfoldable pub within : (u z v : Word) → Inversion z → Inversion (place u z v)
 within u z v r = record {

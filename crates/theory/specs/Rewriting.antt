@@ -32,17 +32,17 @@ module _ {R : CommutativeRing} (P : Relations R) where
   unfoldable pub rewritten : FreeSum R → R .carrier → {w : Word} → Inversion w → FreeSum R
   rewritten f a {w} r = f ++ (scale a (negate (single w)) ++ scale a (replaced r))
 
-  -- one step: of the coefficient of a word in the letters 1 to n, the part a is taken
+  -- one step, at an inversion of a word in the letters 1 to n; it may take a part of the word's coefficient
   pub record Rewrite (f g : FreeSum R) : Type 0 where
     pub word : Word
     pub over : Over (P .n) word
     pub inversion : Inversion word
-    pub part : R .carrier
-    pub becomes : g ≈ rewritten f part inversion
+    pub taken : R .carrier
+    pub becomes : g ≈ rewritten f taken inversion
 
   -- it takes the whole collected coefficient
   abbrev pub Whole : {f g : FreeSum R} → Rewrite f g → Type 0
-  Whole {f} s = s .part ≡ coeff f (s .word)
+  Whole {f} s = s .taken ≡ coeff f (s .word)
 
   -- any number of steps, one after another
   pub data Rewriting : FreeSum R → FreeSum R → Type 0 where
