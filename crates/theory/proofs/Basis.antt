@@ -16,10 +16,10 @@ use Rattle.theory.proofs.RingLaws as ring
 use Rattle.theory.proofs.Eval.{eval, eval-nil, eval-append, eval-bind}
 use Rattle.theory.proofs.Equality.{≈-of-eval}
 use Rattle.theory.proofs.Occurs.{occurs-append, occurs-negate, occurs-around, occurs-bind}
-use Rattle.theory.proofs.Words.{over-place, over-place-join}
-use Rattle.theory.proofs.Relations.{upper, lower, pair-ji, pair-kj, rhs-over, reduct-over, inversion-pair}
+use Rattle.theory.proofs.Words.{over-place-join}
+use Rattle.theory.proofs.Relations.{upper, lower, pair-ji, pair-kj, rhs-over, reduct-over}
 use Rattle.theory.proofs.NormalForm.{value, Unfolds, stands, falls, nf-unfolds, nf-words, eval-NF, NF-standard, NF-of-standard, eval-replaced, eval-nf-replaced, occurs-replaced}
-use Rattle.theory.proofs.Congruence.{eval-multiple, congruent-eval, congruent-equal, congruent-sym, congruent-trans, congruent-difference, congruent-relator, congruent-bind}
+use Rattle.theory.proofs.Congruence.{eval-multiple, congruent-eval, congruent-equal, congruent-sym, congruent-trans, congruent-difference, congruent-relator, congruent-replaced, congruent-bind}
 use Rattle.theory.proofs.Diamond.{value-at, diamond}
 
 module _ {R : CommutativeRing} (P : Relations R) (ends : WellFounded (Below P)) (tails : TailsOver P) where
@@ -32,14 +32,11 @@ module _ {R : CommutativeRing} (P : Relations R) (ends : WellFounded (Below P)) 
       go w ih o (stands s e) = congruent-equal P (single w) (nf P ends w) (λ φ. ap (λ f. eval f φ) (sym e))
       go w ih o (falls r _ e) =
           congruent-trans P (single w) step (nf P ends w)
-          (subst (λ x. Congruent P (single x) step) (sym (r .split)) (congruent-relator P (r .before) (r .j) (r .i) (r .after) (inversion-pair P w o r) (k .0) (k .2)))
+          (congruent-replaced P w o r)
           (congruent-trans P step (bind step (nf P ends)) (nf P ends w) (congruent-bind P step (nf P ends) smaller) (congruent-equal P (bind step (nf P ends)) (nf P ends w) same-value))
         where
           step : FreeSum R
           step = replaced P r
-
-          k : Over (P .n) (r .before) × Over (P .n) (r .j ∷ r .i ∷ []) × Over (P .n) (r .after)
-          k = over-place (P .n) (r .before) (r .j ∷ r .i ∷ []) (r .after) (subst (Over (P .n)) (r .split) o)
 
           smaller : (t : Word) → Occurs t step → Congruent P (single t) (nf P ends t)
           smaller t h =
@@ -98,7 +95,7 @@ module _ {R : CommutativeRing} (P : Relations R) (ends : WellFounded (Below P)) 
       only = λ t h w. sym (NF-of-standard P ends t (h .standard) w) ∙ sym (NF-congruent f t (h .congruent) w);
     }
 
-  -- and the other way round: an overlap is a sum of words over 1 .. n that is congruent to 0
+  -- and the other way round: an overlap is a sum in the letters 1 to n that is congruent to 0
   around-over : (u : Word) (j i : ℕ) (v : Word) → Over (P .n) u → Pair (P .n) j i → Over (P .n) v → OverSum (P .n) (around u (rhs P j i) v)
   around-over u j i v ou h ov t o =
       let x = occurs-around u (rhs P j i) v t o in

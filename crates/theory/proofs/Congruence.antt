@@ -1,31 +1,19 @@
--- Congruence is an equivalence, and is kept by sums, negatives, scaling, words on both sides, and products.
-use mathlib.Core.Path.{_≡_, refl, sym, ap, ap₂, fun-ext, _∙_}
+-- Congruence is an equivalence and is kept by sums, negatives and scaling; a word is congruent to what it comes to when it is rewritten.
+use mathlib.Core.Path.{_≡_, refl, sym, ap, ap₂, subst, _∙_}
 use mathlib.Core.Logic.{inl, inr}
-use mathlib.Core.List.{List, [], _∷_, _++_, append-assoc, append-nil}
+use mathlib.Core.List.{List, [], _∷_, _++_, append-assoc}
 use Prim.Native.Nat.{ℕ}
 use Rattle.theory.specs.Ring.{CommutativeRing}
-use Rattle.theory.specs.FreeSum.{Word, place, Term, FreeSum, Occurs, _≈_, single, scale, negate, around, bind, times}
-use Rattle.theory.specs.Words.{Over, OverSum}
+use Rattle.theory.specs.FreeSum.{Word, place, Term, FreeSum, Occurs, _≈_, single, scale, negate, around, bind}
+use Rattle.theory.specs.Words.{Over, Inversion}
 use Rattle.theory.specs.Relations.{Relations, Pair, rhs, relator}
 use Rattle.theory.specs.Congruence.{Multiple, multiple, combination, Congruent}
+use Rattle.theory.specs.Rewriting.{replaced}
 use Rattle.theory.proofs.RingLaws as ring
-use Rattle.theory.proofs.Eval.{eval, eval-nil, eval-append, eval-single, eval-scale, eval-negate, eval-around, eval-bind, eval-times, eval-exchange}
+use Rattle.theory.proofs.Eval.{eval, eval-nil, eval-append, eval-single, eval-scale, eval-negate, eval-around}
 use Rattle.theory.proofs.Equality.{eval-≈, ≈-of-eval}
-use Rattle.theory.proofs.Words.{over-join, place-place}
-
-module _ {R : CommutativeRing} where
-  -- a product by the words of one factor
-  times-left : (f g : FreeSum R) (φ : Word → R .carrier) → eval (times f g) φ ≡ eval (bind f (λ x. around x g [])) φ
-  unfolding place
-  times-left f g φ =
-      eval-times f g φ
-      ∙ sym (eval-bind f (λ x. around x g []) φ ∙ ap (eval f) (fun-ext (λ x. eval-around x g [] φ ∙ ap (eval g) (fun-ext (λ y. ap (λ t. φ (x ++ t)) (append-nil y))))))
-
-  times-right : (f g : FreeSum R) (φ : Word → R .carrier) → eval (times f g) φ ≡ eval (bind g (λ y. around [] f y)) φ
-  unfolding place
-  times-right f g φ =
-      eval-times f g φ ∙ eval-exchange f g (λ x y. φ (x ++ y))
-      ∙ sym (eval-bind g (λ y. around [] f y) φ ∙ ap (eval g) (fun-ext (λ y. eval-around [] f y φ)))
+use Rattle.theory.proofs.Words.{over-place}
+use Rattle.theory.proofs.Relations.{inversion-pair}
 
 module _ {R : CommutativeRing} (P : Relations R) where
   -- the value of a multiple of a relator, and of a sum of multiples
@@ -44,6 +32,9 @@ module _ {R : CommutativeRing} (P : Relations R) where
   unfolding combination
   combination-append [] k = refl
   combination-append (m ∷ l) k = ap (λ f. multiple P m ++ f) (combination-append l k) ∙ sym (append-assoc (multiple P m) (combination P l) (combination P k))
+
+  eval-combination-append : (l k : List (Multiple P)) (φ : Word → R .carrier) → eval (combination P (l ++ k)) φ ≡ R .add (eval (combination P l) φ) (eval (combination P k) φ)
+  eval-combination-append l k φ = ap (λ s. eval s φ) (combination-append l k) ∙ eval-append (combination P l) (combination P k) φ
 
   -- each multiple, r times
   times-multiple : R .carrier → Multiple P → Multiple P
@@ -66,52 +57,52 @@ module _ {R : CommutativeRing} (P : Relations R) where
   pub congruent-eval : (f g : FreeSum R) (c : Congruent P f g) (φ : Word → R .carrier) → eval f φ ≡ R .add (eval g φ) (eval (combination P (c .by)) φ)
   congruent-eval f g c φ = eval-≈ f (g ++ combination P (c .by)) (c .differ) φ ∙ eval-append g (combination P (c .by)) φ
 
-  of-eval : (f g : FreeSum R) (l : List (Multiple P)) → ((φ : Word → R .carrier) → eval f φ ≡ R .add (eval g φ) (eval (combination P l) φ)) → Congruent P f g
-  of-eval f g l h = record { by = l; differ = ≈-of-eval f (g ++ combination P l) (λ φ. h φ ∙ sym (eval-append g (combination P l) φ)) }
+  pub congruent-of-eval : (f g : FreeSum R) (l : List (Multiple P)) → ((φ : Word → R .carrier) → eval f φ ≡ R .add (eval g φ) (eval (combination P l) φ)) → Congruent P f g
+  congruent-of-eval f g l h = record { by = l; differ = ≈-of-eval f (g ++ combination P l) (λ φ. h φ ∙ sym (eval-append g (combination P l) φ)) }
 
   pub congruent-equal : (f g : FreeSum R) → ((φ : Word → R .carrier) → eval f φ ≡ eval g φ) → Congruent P f g
   unfolding combination
-  congruent-equal f g h = of-eval f g [] (λ φ. h φ ∙ sym (ap (R .add (eval g φ)) (eval-nil R φ) ∙ ring.add-zero R (eval g φ)))
+  congruent-equal f g h = congruent-of-eval f g [] (λ φ. h φ ∙ sym (ap (R .add (eval g φ)) (eval-nil R φ) ∙ ring.add-zero R (eval g φ)))
 
   pub congruent-≈ : (f g : FreeSum R) → f ≈ g → Congruent P f g
   congruent-≈ f g h = congruent-equal f g (eval-≈ f g h)
 
   pub congruent-trans : (f g k : FreeSum R) → Congruent P f g → Congruent P g k → Congruent P f k
   congruent-trans f g k c d =
-      of-eval f k (d .by ++ c .by)
+      congruent-of-eval f k (d .by ++ c .by)
       (λ φ. congruent-eval f g c φ ∙ ap (λ x. R .add x (eval (combination P (c .by)) φ)) (congruent-eval g k d φ) ∙ ring.add-assoc R _ _ _
-      ∙ ap (R .add (eval k φ)) (sym (ap (λ s. eval s φ) (combination-append (d .by) (c .by)) ∙ eval-append (combination P (d .by)) (combination P (c .by)) φ)))
+      ∙ ap (R .add (eval k φ)) (sym (eval-combination-append (d .by) (c .by) φ)))
 
   pub congruent-append : (f g f′ g′ : FreeSum R) → Congruent P f g → Congruent P f′ g′ → Congruent P (f ++ f′) (g ++ g′)
   congruent-append f g f′ g′ c d =
-      of-eval (f ++ f′) (g ++ g′) (c .by ++ d .by)
+      congruent-of-eval (f ++ f′) (g ++ g′) (c .by ++ d .by)
       (λ φ. eval-append f f′ φ ∙ ap₂ (R .add) (congruent-eval f g c φ) (congruent-eval f′ g′ d φ) ∙ ring.add-swap R _ _ _ _
-      ∙ ap₂ (R .add) (sym (eval-append g g′ φ)) (sym (ap (λ s. eval s φ) (combination-append (c .by) (d .by)) ∙ eval-append (combination P (c .by)) (combination P (d .by)) φ)))
+      ∙ ap₂ (R .add) (sym (eval-append g g′ φ)) (sym (eval-combination-append (c .by) (d .by) φ)))
 
   pub congruent-scale : (r : R .carrier) (f g : FreeSum R) → Congruent P f g → Congruent P (scale r f) (scale r g)
   congruent-scale r f g c =
-      of-eval (scale r f) (scale r g) (times-all r (c .by))
+      congruent-of-eval (scale r f) (scale r g) (times-all r (c .by))
       (λ φ. eval-scale r f φ ∙ ap (R .mul r) (congruent-eval f g c φ) ∙ ring.mul-add R _ _ _ ∙ ap₂ (R .add) (sym (eval-scale r g φ)) (sym (combination-times r (c .by) φ)))
 
-  -- f = g + c, so g = f − c
+  -- f = g + c, so g = f + (−1) c
   pub congruent-sym : (f g : FreeSum R) → Congruent P f g → Congruent P g f
-  congruent-sym f g c = of-eval g f (times-all (R .neg (R .one)) (c .by)) (λ φ. sym (same-value φ))
+  congruent-sym f g c = congruent-of-eval g f (times-all (R .neg (R .one)) (c .by)) (λ φ. sym (same-value φ))
     where
       same-value : (φ : Word → R .carrier) → R .add (eval f φ) (eval (combination P (times-all (R .neg (R .one)) (c .by))) φ) ≡ eval g φ
       same-value φ =
           ap₂ (R .add) (congruent-eval f g c φ) (combination-times (R .neg (R .one)) (c .by) φ ∙ ring.neg-one-mul R _)
           ∙ ring.cancel R (eval g φ) (eval (combination P (c .by)) φ)
 
-  -- the negative is the sum scaled by −1
   pub congruent-negate : (f g : FreeSum R) → Congruent P f g → Congruent P (negate f) (negate g)
   congruent-negate f g c =
-      of-eval (negate f) (negate g) (times-all (R .neg (R .one)) (c .by))
+      congruent-of-eval (negate f) (negate g) (times-all (R .neg (R .one)) (c .by))
       (λ φ. eval-negate f φ ∙ ap (R .neg) (congruent-eval f g c φ) ∙ ring.neg-add R _ _
       ∙ ap₂ (R .add) (sym (eval-negate g φ)) (sym (combination-times (R .neg (R .one)) (c .by) φ ∙ ring.neg-one-mul R _)))
 
+  -- f = g + c, so f − g = c
   pub congruent-difference : (f g : FreeSum R) → Congruent P f g → Congruent P (f ++ negate g) []
   congruent-difference f g c =
-      of-eval (f ++ negate g) [] (c .by)
+      congruent-of-eval (f ++ negate g) [] (c .by)
       (λ φ. eval-append f (negate g) φ ∙ ap₂ (R .add) (congruent-eval f g c φ) (eval-negate g φ)
       ∙ ap (λ x. R .add x (R .neg (eval g φ))) (ring.add-comm R _ _) ∙ ring.cancel R _ _ ∙ sym (ap (λ x. R .add x (eval (combination P (c .by)) φ)) (eval-nil R φ) ∙ ring.zero-add R _))
 
@@ -119,7 +110,7 @@ module _ {R : CommutativeRing} (P : Relations R) where
   pub congruent-relator : (u : Word) (j i : ℕ) (v : Word) → Pair (P .n) j i → Over (P .n) u → Over (P .n) v
       → Congruent P (single (place u (j ∷ i ∷ []) v)) (around u (rhs P j i) v)
   unfolding combination
-  congruent-relator u j i v h ou ov = of-eval (single (place u (j ∷ i ∷ []) v)) (around u (rhs P j i) v) (m ∷ []) same-value
+  congruent-relator u j i v h ou ov = congruent-of-eval (single (place u (j ∷ i ∷ []) v)) (around u (rhs P j i) v) (m ∷ []) same-value
     where
       m : Multiple P
       m = record { by = R .one; before = u; j = j; i = i; after = v; pair = h; over-before = ou; over-after = ov }
@@ -131,6 +122,11 @@ module _ {R : CommutativeRing} (P : Relations R) where
           eval-single R (place u (j ∷ i ∷ []) v) φ
           ∙ sym (ap₂ (R .add) (eval-around u (rhs P j i) v φ) (eval-append (multiple P m) [] φ ∙ ap₂ (R .add) (eval-multiple m φ ∙ ring.one-mul R _) (eval-nil R φ) ∙ ring.add-zero R _)
           ∙ ring.add-left R b a (R .neg b) ∙ ap (R .add a) (ring.add-neg R b) ∙ ring.add-zero R a)
+
+  pub congruent-replaced : (w : Word) → Over (P .n) w → (r : Inversion w) → Congruent P (single w) (replaced P r)
+  congruent-replaced w over r =
+      let k = over-place (P .n) (r .before) (r .j ∷ r .i ∷ []) (r .after) (subst (Over (P .n)) (r .split) over) in
+      subst (λ x. Congruent P (single x) (replaced P r)) (sym (r .split)) (congruent-relator (r .before) (r .j) (r .i) (r .after) (inversion-pair P w over r) (k .0) (k .2))
 
   -- what holds of each word holds of a sum
   cons-single : (e : Term R) (f : FreeSum R) (φ : Word → R .carrier) → eval (e ∷ f) φ ≡ eval (scale (e .coef) (single (e .word)) ++ f) φ
@@ -147,64 +143,3 @@ module _ {R : CommutativeRing} (P : Relations R) where
       (congruent-equal (e ∷ f) (scale (e .coef) (single (e .word)) ++ f) (cons-single e f))
       (congruent-append (scale (e .coef) (single (e .word))) (scale (e .coef) (k (e .word))) f (bind f k)
       (congruent-scale (e .coef) (single (e .word)) (k (e .word)) (h (e .word) (inl refl))) (congruent-bind f k (λ t o. h t (inr o))))
-
-  -- congruence is kept by words on both sides
-  around-multiple : (u v : Word) → Over (P .n) u → Over (P .n) v → Multiple P → Multiple P
-  around-multiple u v ou ov m = record {
-    by = m .by;
-    before = u ++ m .before;
-    j = m .j;
-    i = m .i;
-    after = m .after ++ v;
-    pair = m .pair;
-    over-before = over-join (P .n) u (m .before) ou (m .over-before);
-    over-after = over-join (P .n) (m .after) v (m .over-after) ov;
-  }
-
-  around-all : (u v : Word) → Over (P .n) u → Over (P .n) v → List (Multiple P) → List (Multiple P)
-  around-all u v ou ov [] = []
-  around-all u v ou ov (m ∷ l) = around-multiple u v ou ov m ∷ around-all u v ou ov l
-
-  combination-around : (u v : Word) (ou : Over (P .n) u) (ov : Over (P .n) v) (l : List (Multiple P)) (φ : Word → R .carrier)
-      → eval (combination P (around-all u v ou ov l)) φ ≡ eval (combination P l) (λ x. φ (place u x v))
-  unfolding combination around-all around-multiple
-  combination-around u v ou ov [] φ = eval-nil R φ ∙ sym (eval-nil R (λ x. φ (place u x v)))
-  combination-around u v ou ov (m ∷ l) φ =
-      eval-append (multiple P (around-multiple u v ou ov m)) (combination P (around-all u v ou ov l)) φ
-      ∙ ap₂ (R .add) (eval-multiple (around-multiple u v ou ov m) φ ∙ ap₂ (λ x y. R .mul (m .by) (R .add x (R .neg y))) (shift (m .j ∷ m .i ∷ []))
-      (ap (eval (rhs P (m .j) (m .i))) (fun-ext shift)) ∙ sym (eval-multiple m (λ x. φ (place u x v)))) (combination-around u v ou ov l φ)
-      ∙ sym (eval-append (multiple P m) (combination P l) (λ x. φ (place u x v)))
-    where
-      shift : (x : Word) → φ (place (u ++ m .before) x (m .after ++ v)) ≡ φ (place u (place (m .before) x (m .after)) v)
-      shift x = ap φ (sym (place-place u (m .before) x (m .after) v))
-
-  pub congruent-around : (u v : Word) → Over (P .n) u → Over (P .n) v → (f g : FreeSum R) → Congruent P f g → Congruent P (around u f v) (around u g v)
-  congruent-around u v ou ov f g c =
-      of-eval (around u f v) (around u g v) (around-all u v ou ov (c .by))
-      (λ φ. eval-around u f v φ ∙ congruent-eval f g c (λ x. φ (place u x v)) ∙ ap₂ (R .add) (sym (eval-around u g v φ)) (sym (combination-around u v ou ov (c .by) φ)))
-
-  congruent-each : (f : FreeSum R) (k l : Word → FreeSum R) → ((t : Word) → Occurs t f → Congruent P (k t) (l t)) → Congruent P (bind f k) (bind f l)
-  unfolding bind
-  congruent-each [] k l h = congruent-equal [] [] (λ φ. refl)
-  congruent-each (e ∷ f) k l h =
-      congruent-append (scale (e .coef) (k (e .word))) (scale (e .coef) (l (e .word))) (bind f k) (bind f l)
-      (congruent-scale (e .coef) (k (e .word)) (l (e .word)) (h (e .word) (inl refl)))
-      (congruent-each f k l (λ t o. h t (inr o)))
-
-  -- and so by products with a sum in the letters 1 to n, on either side
-  pub congruent-times-left : (f f′ g : FreeSum R) → OverSum (P .n) g → Congruent P f f′ → Congruent P (times f g) (times f′ g)
-  congruent-times-left f f′ g o c =
-      congruent-trans (times f g) (bind g (λ y. around [] f y)) (times f′ g) (congruent-equal (times f g) (bind g (λ y. around [] f y)) (times-right f g))
-      (congruent-trans (bind g (λ y. around [] f y)) (bind g (λ y. around [] f′ y)) (times f′ g)
-      (congruent-each g (λ y. around [] f y) (λ y. around [] f′ y) (λ y h. congruent-around [] y tt (o y h) f f′ c))
-      (congruent-equal (bind g (λ y. around [] f′ y)) (times f′ g) (λ φ. sym (times-right f′ g φ))))
-
-  pub congruent-times-right : (f g g′ : FreeSum R) → OverSum (P .n) f → Congruent P g g′ → Congruent P (times f g) (times f g′)
-  congruent-times-right f g g′ o c =
-      congruent-trans (times f g) (bind f (λ x. around x g [])) (times f g′) (congruent-equal (times f g) (bind f (λ x. around x g [])) (times-left f g))
-      (congruent-trans (bind f (λ x. around x g [])) (bind f (λ x. around x g′ [])) (times f g′)
-      (congruent-each f (λ x. around x g []) (λ x. around x g′ []) (λ x h. congruent-around x [] (o x h) tt g g′ c))
-      (congruent-equal (bind f (λ x. around x g′ [])) (times f g′) (λ φ. sym (times-left f g′ φ))))
-
-  pub congruent-times : (f f′ g g′ : FreeSum R) → OverSum (P .n) f′ → OverSum (P .n) g → Congruent P f f′ → Congruent P g g′ → Congruent P (times f g) (times f′ g′)
-  congruent-times f f′ g g′ of og c d = congruent-trans (times f g) (times f′ g) (times f′ g′) (congruent-times-left f f′ g og c) (congruent-times-right f′ g g′ of d)

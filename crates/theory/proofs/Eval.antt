@@ -1,9 +1,9 @@
 -- The value of a free sum f at a function φ of words, the sum of a · φ(w) over the terms a · w of f: what it is of each operation.
 use mathlib.Core.Path.{_≡_, refl, sym, ap, ap₂, _∙_}
-use mathlib.Core.Logic.{_⊎_, inl, inr}
-use mathlib.Core.List.{List, [], _∷_, _++_}
+use mathlib.Core.Logic.{inl, inr}
+use mathlib.Core.List.{[], _∷_, _++_}
 use Rattle.theory.specs.Ring.{CommutativeRing}
-use Rattle.theory.specs.FreeSum.{Word, word-eq, place, Term, FreeSum, when, Occurs, coeff, _≈_, single, scale, negate, around, bind, times-term, times}
+use Rattle.theory.specs.FreeSum.{Word, place, Term, FreeSum, Occurs, single, scale, negate, around, bind, times-term, times}
 unfoldable pub use Rattle.theory.specs.FreeSum.{eval}
 use Rattle.theory.proofs.RingLaws as ring
 

@@ -8,6 +8,7 @@ pub mod Relations
 pub mod NormalForm
 pub mod Standard
 pub mod Congruence
+pub mod Products
 pub mod Overlaps
 pub mod Diamond
 pub mod Basis

@@ -1,6 +1,6 @@
 -- Rewriting keeps a sum's class; and where the overlaps resolve it keeps the normal form, and ends nowhere else.
-use mathlib.Core.Path.{_≡_, refl, sym, ap, ap₂, subst, _∙_}
-use mathlib.Core.List.{[], _∷_, _++_}
+use mathlib.Core.Path.{_≡_, refl, sym, ap, ap₂, _∙_}
+use mathlib.Core.List.{_++_}
 use mathlib.Core.WellFounded.{WellFounded}
 use Rattle.theory.specs.Ring.{CommutativeRing}
 use Rattle.theory.specs.FreeSum.{Word, FreeSum, _≈_, single, scale, negate}
@@ -12,9 +12,7 @@ use Rattle.theory.specs.NormalForm.{NF, Resolves}
 use Rattle.theory.proofs.RingLaws as ring
 use Rattle.theory.proofs.Eval.{eval, eval-append, eval-single, eval-scale, eval-negate}
 use Rattle.theory.proofs.Equality.{eval-≈, ≈-of-eval}
-use Rattle.theory.proofs.Words.{over-place}
-use Rattle.theory.proofs.Relations.{inversion-pair}
-use Rattle.theory.proofs.Congruence.{congruent-≈, congruent-equal, congruent-sym, congruent-trans, congruent-append, congruent-scale, congruent-relator}
+use Rattle.theory.proofs.Congruence.{congruent-≈, congruent-equal, congruent-sym, congruent-trans, congruent-append, congruent-scale, congruent-replaced}
 use Rattle.theory.proofs.Standard.{only-standard, only-standard-standard, ended-only-standard}
 use Rattle.theory.proofs.NormalForm.{value, eval-at, eval-replaced, eval-NF, NF-≈, NF-of-standard}
 use Rattle.theory.proofs.Diamond.{value-at, diamond}
@@ -50,7 +48,7 @@ module _ {R : CommutativeRing} (P : Relations R) where
       congruent-trans P (f ++ (out ++ scale a g)) (f ++ (out ++ scale a (single w))) f
       (congruent-append P f f (out ++ scale a g) (out ++ scale a (single w)) (congruent-equal P f f (λ φ. refl))
       (congruent-append P out out (scale a g) (scale a (single w)) (congruent-equal P out out (λ φ. refl))
-      (congruent-scale P a g (single w) (congruent-sym P (single w) g relation))))
+      (congruent-scale P a g (single w) (congruent-sym P (single w) g (congruent-replaced P w over r)))))
       (congruent-equal P (f ++ (out ++ scale a (single w))) f same-value)
     where
       g : FreeSum R
@@ -58,11 +56,6 @@ module _ {R : CommutativeRing} (P : Relations R) where
 
       out : FreeSum R
       out = scale a (negate (single w))
-
-      relation : Congruent P (single w) g
-      relation =
-          let k = over-place (P .n) (r .before) (r .j ∷ r .i ∷ []) (r .after) (subst (Over (P .n)) (r .split) over) in
-          subst (λ x. Congruent P (single x) g) (sym (r .split)) (congruent-relator P (r .before) (r .j) (r .i) (r .after) (inversion-pair P w over r) (k .0) (k .2))
 
       same-value : (φ : Word → R .carrier) → eval (f ++ (out ++ scale a (single w))) φ ≡ eval f φ
       same-value φ =

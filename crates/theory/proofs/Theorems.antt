@@ -6,7 +6,8 @@ use Rattle.theory.specs.Theorems.{Normal-forms, Diamond-lemma, Basis-iff-resol
 use Rattle.theory.proofs.NormalForm.{NF-single, NF-replaced-first, NF-of-standard, NF-standard, NF-≈, NF-append, NF-negate, NF-scale}
 use Rattle.theory.proofs.Diamond.{nf-replaced-any}
 use Rattle.theory.proofs.Basis.{NF-over, congruent-NF, NF-congruent, basis-of-resolves, resolves-of-basis}
-use Rattle.theory.proofs.Congruence.{congruent-≈, congruent-sym, congruent-trans, congruent-append, congruent-negate, congruent-scale, congruent-times}
+use Rattle.theory.proofs.Congruence.{congruent-≈, congruent-sym, congruent-trans, congruent-append, congruent-negate, congruent-scale}
+use Rattle.theory.proofs.Products.{congruent-times}
 use Rattle.theory.proofs.Rewriting.{rewriting-congruent}
 use Rattle.theory.proofs.Terminates.{active-ends, no-endless}
 
