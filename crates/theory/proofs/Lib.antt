@@ -13,6 +13,7 @@ pub mod Overlaps
 pub mod Diamond
 pub mod Basis
 pub mod Rewriting
+pub mod Lowered
 pub mod Standardise
 pub mod Terminates
 pub mod Ends
