@@ -5,48 +5,47 @@ use mathlib.Core.List.{List, [], _∷_}
 use mathlib.Core.WellFounded.{WellFounded, recursion}
 use Prim.Native.Nat.{ℕ}
 use Rattle.theory.specs.Ring.{CommutativeRing}
-use Rattle.theory.specs.FreeSum.{Word, place, FreeSum, Occurs, _≈_, single, negate, around, bind}
-use Rattle.theory.specs.Words.{Over, Inversion, OverSum}
+use Rattle.theory.specs.FreeSum.{Word, place, FreeSum, Occurs, _≈_, single, negate, around}
+use Rattle.theory.specs.Words.{Standard, Over, Inversion, Leftmost, leftmost, OverSum}
 use Rattle.theory.specs.Relations.{Relations, Pair, TailsOver, rhs, overlap}
 use Rattle.theory.specs.Congruence.{Multiple, multiple, combination, Congruent}
 use Rattle.theory.specs.Basis.{StandardForm, Basis}
 use Rattle.theory.specs.Rewriting.{replaced, Below, below-one}
 use Rattle.theory.specs.NormalForm.{nf, NF, Resolves}
 use Rattle.theory.proofs.RingLaws as ring
-use Rattle.theory.proofs.Eval.{eval, eval-nil, eval-append, eval-bind}
-use Rattle.theory.proofs.Equality.{≈-of-eval}
+use Rattle.theory.proofs.Eval.{eval, eval-single, eval-nil, eval-append}
 use Rattle.theory.proofs.Occurs.{occurs-append, occurs-negate, occurs-around, occurs-bind}
 use Rattle.theory.proofs.Words.{over-place-join}
 use Rattle.theory.proofs.Relations.{upper, lower, pair-ji, pair-kj, rhs-over, reduct-over}
-use Rattle.theory.proofs.NormalForm.{value, Unfolds, stands, falls, nf-unfolds, nf-words, eval-NF, NF-standard, NF-of-standard, eval-replaced, eval-nf-replaced, occurs-replaced}
+use Rattle.theory.proofs.NormalForm.{value, value-standard, value-first, eval-nf, eval-NF, nf-words, NF-of-values, NF-standard, NF-of-standard, eval-replaced, occurs-replaced}
 use Rattle.theory.proofs.Congruence.{eval-multiple, congruent-eval, congruent-equal, congruent-sym, congruent-trans, congruent-difference, congruent-relator, congruent-replaced, congruent-bind}
 use Rattle.theory.proofs.Diamond.{value-at, diamond}
 
 module _ {R : CommutativeRing} (P : Relations R) (ends : WellFounded (Below P)) (tails : TailsOver P) where
   -- a word in the letters 1 to n, and a sum of such words, is congruent to its normal form
-  pub congruent-nf : (w : Word) → Over (P .n) w → Congruent P (single w) (nf P ends w)
-  congruent-nf w = recursion ends {C = λ w. Over (P .n) w → Congruent P (single w) (nf P ends w)} w (λ w ih o. go w ih o (nf-unfolds P ends w))
+  congruent-nf : (w : Word) → Over (P .n) w → Congruent P (single w) (nf P ends w)
+  unfolding NF
+  congruent-nf w = recursion ends {C = λ w. Over (P .n) w → Congruent P (single w) (nf P ends w)} w (λ w ih o. go w ih o (leftmost w))
     where
-      go : (w : Word) → ((y : Word) → Below P y w → Over (P .n) y → Congruent P (single y) (nf P ends y)) → Over (P .n) w → Unfolds P ends w
+      go : (w : Word) → ((y : Word) → Below P y w → Over (P .n) y → Congruent P (single y) (nf P ends y)) → Over (P .n) w → Standard w ⊎ Leftmost w
           → Congruent P (single w) (nf P ends w)
-      go w ih o (stands s e) = congruent-equal P (single w) (nf P ends w) (λ φ. ap (λ f. eval f φ) (sym e))
-      go w ih o (falls r _ e) =
-          congruent-trans P (single w) step (nf P ends w)
-          (congruent-replaced P w o r)
-          (congruent-trans P step (bind step (nf P ends)) (nf P ends w) (congruent-bind P step (nf P ends) smaller) (congruent-equal P (bind step (nf P ends)) (nf P ends w) same-value))
+      go w ih o (inl s) = congruent-equal P (single w) (nf P ends w) (λ φ. eval-single R w φ ∙ sym (eval-nf P ends w φ ∙ value-standard P ends φ w s))
+      go w ih o (inr l) =
+          congruent-trans P (single w) step (nf P ends w) (congruent-replaced P w o (l .inversion))
+          (congruent-trans P step (NF P ends step) (nf P ends w) (congruent-bind P step (nf P ends) smaller) (congruent-equal P (NF P ends step) (nf P ends w) same-value))
         where
           step : FreeSum R
-          step = replaced P r
+          step = replaced P (l .inversion)
 
           smaller : (t : Word) → Occurs t step → Congruent P (single t) (nf P ends t)
           smaller t h =
-              let s = occurs-replaced P r t h in
+              let s = occurs-replaced P (l .inversion) t h in
               ih t (below-one s) (reduct-over P tails t w s o)
 
-          same-value : (φ : Word → R .carrier) → eval (bind step (nf P ends)) φ ≡ eval (nf P ends w) φ
+          same-value : (φ : Word → R .carrier) → eval (NF P ends step) φ ≡ eval (nf P ends w) φ
           same-value φ =
-              eval-bind step (nf P ends) φ ∙ eval-replaced P r (λ x. eval (nf P ends x) φ)
-              ∙ sym (ap (λ f. eval f φ) e ∙ eval-nf-replaced P ends r φ)
+              eval-NF P ends step φ ∙ eval-replaced P (l .inversion) (value P ends φ)
+              ∙ sym (eval-nf P ends w φ ∙ value-first P ends φ w (l .inversion) (l .first))
 
   pub congruent-NF : (f : FreeSum R) → OverSum (P .n) f → Congruent P f (NF P ends f)
   unfolding NF
@@ -83,10 +82,9 @@ module _ {R : CommutativeRing} (P : Relations R) (ends : WellFounded (Below P)) 
         over = over-place-join (P .n) (m .before) (m .j ∷ m .i ∷ []) (m .after) (m .over-before) (upper (m .pair), (lower (m .pair), tt)) (m .over-after)
 
     pub NF-congruent : (f g : FreeSum R) → Congruent P f g → NF P ends f ≈ NF P ends g
-    unfolding value
     NF-congruent f g c =
-        ≈-of-eval (NF P ends f) (NF P ends g)
-        (λ φ. eval-NF P ends f φ ∙ congruent-eval P f g c (value P ends φ) ∙ ap (R .add (eval g (value P ends φ))) (combination-zero (c .by) φ) ∙ ring.add-zero R _ ∙ sym (eval-NF P ends g φ))
+        NF-of-values P ends f g
+        (λ φ. congruent-eval P f g c (value P ends φ) ∙ ap (R .add (eval g (value P ends φ))) (combination-zero (c .by) φ) ∙ ring.add-zero R _)
 
     pub basis-of-resolves : Basis P
     basis-of-resolves f o = record {

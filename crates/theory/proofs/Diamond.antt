@@ -1,20 +1,21 @@
 -- The diamond lemma: where the overlaps resolve, the normal form of a word can be had by rewriting the word at any inversion.
 use mathlib.Core.Path.{_≡_, refl, sym, ap, subst, fun-ext, _∙_}
+use mathlib.Core.Logic.{_⊎_, inl, inr}
 use mathlib.Core.List.{[], _∷_, _++_}
 use mathlib.Core.WellFounded.{WellFounded, recursion}
 use Prim.Native.Nat.{ℕ, _<_}
 use Rattle.theory.specs.Ring.{CommutativeRing}
-use Rattle.theory.specs.FreeSum.{Word, place, Occurs, _≈_}
-use Rattle.theory.specs.Words.{Over, Inversion}
+use Rattle.theory.specs.FreeSum.{Word, place, Occurs, _≈_, single}
+use Rattle.theory.specs.Words.{Standard, Over, Inversion, Leftmost, leftmost}
 use Rattle.theory.specs.Relations.{Relations, TailsOver, rhs, overlap}
 use Rattle.theory.specs.Rewriting.{replaced, Reduct, Below, below-one}
-use Rattle.theory.specs.NormalForm.{nf, NF, Resolves}
+use Rattle.theory.specs.NormalForm.{NF, Resolves}
 use Rattle.theory.proofs.RingLaws as ring
 use Rattle.theory.proofs.Eval.{eval, eval-single, eval-cong, eval-exchange, eval-nil}
-use Rattle.theory.proofs.Equality.{eval-≈, ≈-of-eval}
+use Rattle.theory.proofs.Equality.{eval-≈}
 use Rattle.theory.proofs.Words.{place-place, place-after, place-next, place-last, place-shift, within, standard-no-inversion, Right, shared, apart, Lie, same, right, left, places-lie}
 use Rattle.theory.proofs.Relations.{inversion-pair, reduct-over, reduct-below, below-over}
-use Rattle.theory.proofs.NormalForm.{value, eval-replaced, eval-nf-replaced, Unfolds, stands, falls, nf-unfolds, eval-NF}
+use Rattle.theory.proofs.NormalForm.{value, value-standard, value-first, eval-replaced, eval-NF, NF-of-values}
 use Rattle.theory.proofs.Overlaps.{eval-overlap}
 
 module _ {R : CommutativeRing} (P : Relations R) (ends : WellFounded (Below P)) (φ : Word → R .carrier) where
@@ -66,25 +67,27 @@ module _ {R : CommutativeRing} (P : Relations R) (ends : WellFounded (Below P)) 
           ∙ ap (eval (rhs P j i)) (fun-ext (λ x. ap N (place-after u x m y v)))
 
   -- a word z between u and v, small enough: its normal form may be taken first
-  inside : (u v z : Word) → Below P (place u z v) w → value P ends φ (place u z v) ≡ eval (nf P ends z) (λ s. value P ends φ (place u s v))
+  inside : (u v z : Word) → Below P (place u z v) w → value P ends φ (place u z v) ≡ value P ends (λ s. value P ends φ (place u s v)) z
   unfolding value-at within
   inside u v z =
-      recursion ends {C = λ z. Below P (place u z v) w → value P ends φ (place u z v) ≡ eval (nf P ends z) (λ s. value P ends φ (place u s v))} z
-      (λ z ih b. go z ih b (nf-unfolds P ends z))
+      recursion ends {C = λ z. Below P (place u z v) w → value P ends φ (place u z v) ≡ value P ends (λ s. value P ends φ (place u s v)) z} z
+      (λ z ih b. go z ih b (leftmost z))
     where
       ψ : Word → R .carrier
       ψ s = value P ends φ (place u s v)
 
-      go : (z : Word) → ((y : Word) → Below P y z → Below P (place u y v) w → ψ y ≡ eval (nf P ends y) ψ) → Below P (place u z v) w → Unfolds P ends z
-          → ψ z ≡ eval (nf P ends z) ψ
-      go z ih b (stands _ e) = sym (ap (λ f. eval f ψ) e ∙ eval-single R z ψ)
-      go z ih b (falls r _ e) =
+      go : (z : Word) → ((y : Word) → Below P y z → Below P (place u y v) w → ψ y ≡ value P ends ψ y) → Below P (place u z v) w → Standard z ⊎ Leftmost z
+          → ψ z ≡ value P ends ψ z
+      go z ih b (inl s) = sym (value-standard P ends ψ z s)
+      go z ih b (inr l) =
           smaller (place u z v) b (below-over P tails b over) (within u z v r)
-          ∙ eval-cong (rhs P (r .j) (r .i)) (λ x. value P ends φ (place (u ++ r .before) x (r .after ++ v))) (λ x. eval (nf P ends (place (r .before) x (r .after))) ψ) part
-          ∙ sym (ap (λ f. eval f ψ) e ∙ eval-nf-replaced P ends r ψ)
+          ∙ eval-cong (rhs P (r .j) (r .i)) (λ x. value P ends φ (place (u ++ r .before) x (r .after ++ v))) (λ x. value P ends ψ (place (r .before) x (r .after))) part
+          ∙ sym (value-first P ends ψ z r (l .first))
         where
-          part : (x : Word) → Occurs x (rhs P (r .j) (r .i))
-              → value P ends φ (place (u ++ r .before) x (r .after ++ v)) ≡ eval (nf P ends (place (r .before) x (r .after))) ψ
+          r : Inversion z
+          r = l .inversion
+
+          part : (x : Word) → Occurs x (rhs P (r .j) (r .i)) → value P ends φ (place (u ++ r .before) x (r .after ++ v)) ≡ value P ends ψ (place (r .before) x (r .after))
           part x o =
               ap (value P ends φ) (sym (place-place u (r .before) x (r .after) v))
               ∙ ih (place (r .before) x (r .after)) (below-one (record { inversion = r; part = x; occurs = o; made = refl }))
@@ -95,18 +98,18 @@ module _ {R : CommutativeRing} (P : Relations R) (ends : WellFounded (Below P)) 
       → value-at P ends φ u k j (i ∷ v) ≡ value-at P ends φ (u ++ (k ∷ [])) j i v
   unfolding value-at
   shared-agree res u k j i v e h l =
-      eval-cong (rhs P k j) (λ x. value P ends φ (place u x (i ∷ v))) (λ x. eval (nf P ends (place [] x (i ∷ []))) ψ) at-first
+      eval-cong (rhs P k j) (λ x. value P ends φ (place u x (i ∷ v))) (λ x. value P ends ψ (place [] x (i ∷ []))) at-first
       ∙ ring.eq-of-sub R left-sum right-sum resolved
-      ∙ sym (eval-cong (rhs P j i) (λ x. value P ends φ (place (u ++ (k ∷ [])) x v)) (λ x. eval (nf P ends (place (k ∷ []) x [])) ψ) at-second)
+      ∙ sym (eval-cong (rhs P j i) (λ x. value P ends φ (place (u ++ (k ∷ [])) x v)) (λ x. value P ends ψ (place (k ∷ []) x [])) at-second)
     where
       ψ : Word → R .carrier
       ψ s = value P ends φ (place u s v)
 
       left-sum : R .carrier
-      left-sum = eval (rhs P k j) (λ x. eval (nf P ends (place [] x (i ∷ []))) ψ)
+      left-sum = eval (rhs P k j) (λ x. value P ends ψ (place [] x (i ∷ [])))
 
       right-sum : R .carrier
-      right-sum = eval (rhs P j i) (λ x. eval (nf P ends (place (k ∷ []) x [])) ψ)
+      right-sum = eval (rhs P j i) (λ x. value P ends ψ (place (k ∷ []) x []))
 
       first : Inversion w
       first = record { before = u; j = k; i = j; after = i ∷ v; split = e; falls = l }
@@ -114,19 +117,19 @@ module _ {R : CommutativeRing} (P : Relations R) (ends : WellFounded (Below P)) 
       second : Inversion w
       second = record { before = u ++ (k ∷ []); j = j; i = i; after = v; split = e ∙ place-shift u k j i v; falls = h }
 
-      at-first : (x : Word) → Occurs x (rhs P k j) → value P ends φ (place u x (i ∷ v)) ≡ eval (nf P ends (place [] x (i ∷ []))) ψ
+      at-first : (x : Word) → Occurs x (rhs P k j) → value P ends φ (place u x (i ∷ v)) ≡ value P ends ψ (place [] x (i ∷ []))
       at-first x o =
           ap (value P ends φ) (sym (place-next u x i v))
           ∙ inside u v (place [] x (i ∷ [])) (subst (λ t. Below P t w) (sym (place-next u x i v)) (below-one (reduct first x o)))
 
-      at-second : (x : Word) → Occurs x (rhs P j i) → value P ends φ (place (u ++ (k ∷ [])) x v) ≡ eval (nf P ends (place (k ∷ []) x [])) ψ
+      at-second : (x : Word) → Occurs x (rhs P j i) → value P ends φ (place (u ++ (k ∷ [])) x v) ≡ value P ends ψ (place (k ∷ []) x [])
       at-second x o =
           ap (value P ends φ) (sym (place-last u k x v))
           ∙ inside u v (place (k ∷ []) x []) (subst (λ t. Below P t w) (sym (place-last u k x v)) (below-one (reduct second x o)))
 
       resolved : R .add left-sum (R .neg right-sum) ≡ R .zero
       resolved =
-          sym (eval-NF P ends (overlap P i j k) ψ ∙ eval-overlap P i j k (λ s. eval (nf P ends s) ψ))
+          sym (eval-NF P ends (overlap P i j k) ψ ∙ eval-overlap P i j k (value P ends ψ))
           ∙ eval-≈ (NF P ends (overlap P i j k)) [] (res i j k (record { low = inversion-pair P w over second .low; first = h; second = l; high = inversion-pair P w over first .high })) ψ
           ∙ eval-nil R ψ
 
@@ -153,16 +156,15 @@ module _ {R : CommutativeRing} (P : Relations R) (ends : WellFounded (Below P)) 
 
 module _ {R : CommutativeRing} (P : Relations R) (ends : WellFounded (Below P)) (tails : TailsOver P) (res : Resolves P ends) where
   pub diamond : (φ : Word → R .carrier) (w : Word) → Agrees P ends φ w
-  unfolding value value-at
-  diamond φ w = recursion ends {C = Agrees P ends φ} w (λ w smaller over r. go w smaller over r (nf-unfolds P ends w))
+  unfolding value-at
+  diamond φ w = recursion ends {C = Agrees P ends φ} w (λ w smaller over r. go w smaller over r (leftmost w))
     where
-      go : (w : Word) → ((y : Word) → Below P y w → Agrees P ends φ y) → (over : Over (P .n) w) (r : Inversion w) → Unfolds P ends w
+      go : (w : Word) → ((y : Word) → Below P y w → Agrees P ends φ y) → (over : Over (P .n) w) (r : Inversion w) → Standard w ⊎ Leftmost w
           → value P ends φ w ≡ value-on P ends φ r
-      go w smaller over r (stands s e) = absurd (standard-no-inversion w s r)
-      go w smaller over r (falls l _ e) = ap (λ f. eval f φ) e ∙ eval-nf-replaced P ends l φ ∙ agree P ends tails φ w smaller over res l r
+      go w smaller over r (inl s) = absurd (standard-no-inversion w s r)
+      go w smaller over r (inr l) = value-first P ends φ w (l .inversion) (l .first) ∙ agree P ends tails φ w smaller over res (l .inversion) r
 
-  pub nf-replaced-any : (w : Word) → Over (P .n) w → (r : Inversion w) → nf P ends w ≈ NF P ends (replaced P r)
-  unfolding value value-at
-  nf-replaced-any w over r =
-      ≈-of-eval (nf P ends w) (NF P ends (replaced P r))
-      (λ φ. diamond φ w over r ∙ sym (eval-NF P ends (replaced P r) φ ∙ eval-replaced P r (λ x. eval (nf P ends x) φ)))
+  pub NF-any : (w : Word) → Over (P .n) w → (r : Inversion w) → NF P ends (single w) ≈ NF P ends (replaced P r)
+  unfolding value-at
+  NF-any w over r =
+      NF-of-values P ends (single w) (replaced P r) (λ φ. eval-single R w (value P ends φ) ∙ diamond φ w over r ∙ sym (eval-replaced P r (value P ends φ)))

@@ -20,7 +20,7 @@ use Rattle.theory.proofs.RingLaws as ring
 use Rattle.theory.proofs.Eval.{eval, eval-nil, eval-single, eval-scale, eval-negate, eval-cong}
 use Rattle.theory.proofs.Equality.{coeff-eval, indicator, indicator-same, ≈-of-eval}
 use Rattle.theory.proofs.Occurs.{occurs-single, occurs-scale, occurs-negate}
-use Rattle.theory.proofs.NormalForm.{value, eval-NF, nf-standard, NF-≈, NF-of-standard}
+use Rattle.theory.proofs.NormalForm.{value, value-standard, eval-NF, NF-≈, NF-of-standard}
 use Rattle.theory.proofs.Relations.{pair-ji}
 use Rattle.theory.proofs.Ends.{ends-by-keys}
 use Rattle.theory.proofs.Basis.{basis-of-resolves, resolves-of-basis}
@@ -171,12 +171,11 @@ module _ (R : CommutativeRing) (c : R .carrier) where
 
   -- the overlap comes to (c − 2) x3
   sl2-overlap : NF (sl2 R c) sl2-ends (overlap (sl2 R c) 1 2 3) ≈ scale (add c (neg (two R))) (generator 3)
-  unfolding value
   sl2-overlap w =
       overlap-nondegeneracy (sl2 R c) sl2-ends 1 2 3 all-three w
       ∙ ≈-of-eval (NF (sl2 R c) sl2-ends (nondegeneracy (sl2 R c) 1 2 3)) (scale (add c (neg (two R))) (generator 3))
       (λ φ. eval-NF (sl2 R c) sl2-ends (nondegeneracy (sl2 R c) 1 2 3) φ ∙ sl2-condition φ
-      ∙ ap (mul (add c (neg (two R)))) (ap (λ f. eval f φ) (nf-standard (sl2 R c) sl2-ends (3 ∷ []) tt))
+      ∙ ap (mul (add c (neg (two R)))) (value-standard (sl2 R c) sl2-ends φ (3 ∷ []) tt ∙ sym (eval-single R (3 ∷ []) φ))
       ∙ sym (eval-scale (add c (neg (two R))) (generator 3) φ)) w
 
 module _ (R : CommutativeRing) where

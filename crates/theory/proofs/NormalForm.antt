@@ -20,10 +20,6 @@ module _ {R : CommutativeRing} where
   bind-in-bind [] k = refl
   bind-in-bind (e ∷ f) k = ap (λ g. scale (e .coef) (k (e .word)) ++ g) (bind-in-bind f k)
 
--- the value of a word's normal form
-unfoldable pub value : {R : CommutativeRing} (P : Relations R) → WellFounded (Below P) → (Word → R .carrier) → Word → R .carrier
-value P ends φ w = eval (nf P ends w) φ
-
 -- the value of what a word comes to when it is rewritten at r
 abbrev pub eval-at : {R : CommutativeRing} (P : Relations R) {w : Word} → Inversion w → (Word → R .carrier) → R .carrier
 eval-at P r φ = eval (rhs P (r .j) (r .i)) (λ x. φ (place (r .before) x (r .after)))
@@ -31,10 +27,6 @@ eval-at P r φ = eval (rhs P (r .j) (r .i)) (λ x. φ (place (r .before) x (r .a
 -- its normal form
 abbrev pub nf-replaced : {R : CommutativeRing} (P : Relations R) (ends : WellFounded (Below P)) {w : Word} → Inversion w → FreeSum R
 nf-replaced P ends r = bind (rhs P (r .j) (r .i)) (λ t. nf P ends (place (r .before) t (r .after)))
-
-pub eval-nf-replaced : {R : CommutativeRing} (P : Relations R) (ends : WellFounded (Below P)) {w : Word} (r : Inversion w) (φ : Word → R .carrier)
-    → eval (nf-replaced P ends r) φ ≡ eval-at P r (λ x. eval (nf P ends x) φ)
-eval-nf-replaced P ends r φ = eval-bind (rhs P (r .j) (r .i)) (λ t. nf P ends (place (r .before) t (r .after))) φ
 
 pub eval-replaced : {R : CommutativeRing} (P : Relations R) {w : Word} (r : Inversion w) (φ : Word → R .carrier) → eval (replaced P r) φ ≡ eval-at P r φ
 eval-replaced P r φ = eval-around (r .before) (rhs P (r .j) (r .i)) (r .after) φ
@@ -44,11 +36,11 @@ occurs-replaced P r t o = let x = occurs-around (r .before) (rhs P (r .j) (r .i)
 
 module _ {R : CommutativeRing} (P : Relations R) (ends : WellFounded (Below P)) where
   -- a standard word is its own normal form, and any other is rewritten at its leftmost inversion
-  pub data Unfolds (w : Word) : Type 0 where
+  data Unfolds (w : Word) : Type 0 where
     stands : Standard w → nf P ends w ≡ single w → Unfolds w
     falls : (r : Inversion w) → First w r → nf P ends w ≡ nf-replaced P ends r → Unfolds w
 
-  pub nf-unfolds : (w : Word) → Unfolds w
+  nf-unfolds : (w : Word) → Unfolds w
   unfolding nf nf-at
   nf-unfolds w = go (leftmost w) (fix-eq ends (λ w smaller. nf-at P w (leftmost w) smaller) w)
     where
@@ -63,7 +55,6 @@ module _ {R : CommutativeRing} (P : Relations R) (ends : WellFounded (Below P)) 
       go (stands _ e) = e
       go (falls r _ e) = absurd (standard-no-inversion w s r)
 
-  -- whichever way the leftmost inversion was found
   pub nf-first : (w : Word) (r : Inversion w) → First w r → nf P ends w ≡ nf-replaced P ends r
   nf-first w r f = go (nf-unfolds w)
     where
@@ -75,52 +66,67 @@ module _ {R : CommutativeRing} (P : Relations R) (ends : WellFounded (Below P)) 
 
   -- the words of a normal form are standard, and what passes on from a word to its reducts holds of them
   pub nf-words : (Q : Word → Type 0) → ((x w : Word) → Reduct P x w → Q w → Q x) → (w : Word) → Q w → (t : Word) → Occurs t (nf P ends w) → Standard t × Q t
-  nf-words Q pass w = recursion ends {C = λ w. Q w → (t : Word) → Occurs t (nf P ends w) → Standard t × Q t} w (λ w ih q t o. go w ih q t o (nf-unfolds w))
+  nf-words Q pass w = recursion ends {C = λ w. Q w → (t : Word) → Occurs t (nf P ends w) → Standard t × Q t} w (λ w ih q t o. go w ih q t o (leftmost w))
     where
       go : (w : Word) → ((y : Word) → Below P y w → Q y → (t : Word) → Occurs t (nf P ends y) → Standard t × Q t) → Q w → (t : Word)
-          → Occurs t (nf P ends w) → Unfolds w → Standard t × Q t
-      go w ih q t o (stands s e) = subst (λ x. Standard x × Q x) (sym (occurs-single R t w (subst (Occurs t) e o))) (s, q)
-      go w ih q t o (falls r _ e) =
-          let h = occurs-bind (rhs P (r .j) (r .i)) (λ x. nf P ends (place (r .before) x (r .after))) t (subst (Occurs t) e o) in
+          → Occurs t (nf P ends w) → Standard w ⊎ Leftmost w → Standard t × Q t
+      go w ih q t o (inl s) = subst (λ x. Standard x × Q x) (sym (occurs-single R t w (subst (Occurs t) (nf-standard w s) o))) (s, q)
+      go w ih q t o (inr l) =
+          let r = l .inversion in
+          let h = occurs-bind (rhs P (r .j) (r .i)) (λ x. nf P ends (place (r .before) x (r .after))) t (subst (Occurs t) (nf-first w r (l .first)) o) in
           let s : Reduct P (place (r .before) (h .0) (r .after)) w = record { inversion = r; part = h .0; occurs = h .1; made = refl } in
           ih (place (r .before) (h .0) (r .after)) (below-one s) (pass (place (r .before) (h .0) (r .after)) w s q) t (h .2)
 
-  pub eval-NF : (f : FreeSum R) (φ : Word → R .carrier) → eval (NF P ends f) φ ≡ eval f (λ w. eval (nf P ends w) φ)
-  unfolding NF
+-- the value of a word's normal form
+unfoldable pub value : {R : CommutativeRing} (P : Relations R) → WellFounded (Below P) → (Word → R .carrier) → Word → R .carrier
+value P ends φ w = eval (nf P ends w) φ
+
+module _ {R : CommutativeRing} (P : Relations R) (ends : WellFounded (Below P)) where
+  pub value-standard : (φ : Word → R .carrier) (w : Word) → Standard w → value P ends φ w ≡ φ w
+  unfolding value
+  value-standard φ w s = ap (λ f. eval f φ) (nf-standard P ends w s) ∙ eval-single R w φ
+
+  pub value-first : (φ : Word → R .carrier) (w : Word) (r : Inversion w) → First w r → value P ends φ w ≡ eval-at P r (value P ends φ)
+  unfolding value
+  value-first φ w r h = ap (λ f. eval f φ) (nf-first P ends w r h) ∙ eval-bind (rhs P (r .j) (r .i)) (λ t. nf P ends (place (r .before) t (r .after))) φ
+
+  pub eval-nf : (w : Word) (φ : Word → R .carrier) → eval (nf P ends w) φ ≡ value P ends φ w
+  unfolding value
+  eval-nf w φ = refl
+
+  pub eval-NF : (f : FreeSum R) (φ : Word → R .carrier) → eval (NF P ends f) φ ≡ eval f (value P ends φ)
+  unfolding NF value
   eval-NF f φ = eval-bind f (nf P ends) φ
 
-  pub NF-single : (w : Word) → NF P ends (single w) ≈ nf P ends w
-  NF-single w = ≈-of-eval (NF P ends (single w)) (nf P ends w) (λ φ. eval-NF (single w) φ ∙ eval-single R w (λ x. eval (nf P ends x) φ))
+  -- equal values of two sums at the values of normal forms
+  pub NF-of-values : (f g : FreeSum R) → ((φ : Word → R .carrier) → eval f (value P ends φ) ≡ eval g (value P ends φ)) → NF P ends f ≈ NF P ends g
+  NF-of-values f g h = ≈-of-eval (NF P ends f) (NF P ends g) (λ φ. eval-NF f φ ∙ h φ ∙ sym (eval-NF g φ))
 
-  pub NF-replaced-first : (w : Word) (r : Inversion w) → First w r → NF P ends (single w) ≈ NF P ends (replaced P r)
-  NF-replaced-first w r h =
-      ≈-of-eval (NF P ends (single w)) (NF P ends (replaced P r))
-      (λ φ. eval-NF (single w) φ ∙ eval-single R w (λ x. eval (nf P ends x) φ) ∙ ap (λ f. eval f φ) (nf-first w r h) ∙ eval-nf-replaced P ends r φ
-      ∙ sym (eval-NF (replaced P r) φ ∙ eval-replaced P r (λ x. eval (nf P ends x) φ)))
-
-  -- equal sums have equal normal forms
   pub NF-≈ : (f g : FreeSum R) → f ≈ g → NF P ends f ≈ NF P ends g
-  NF-≈ f g h = ≈-of-eval (NF P ends f) (NF P ends g) (λ φ. eval-NF f φ ∙ eval-≈ f g h (λ w. eval (nf P ends w) φ) ∙ sym (eval-NF g φ))
+  NF-≈ f g h = NF-of-values f g (λ φ. eval-≈ f g h (value P ends φ))
+
+  pub NF-first : (w : Word) (r : Inversion w) → First w r → NF P ends (single w) ≈ NF P ends (replaced P r)
+  NF-first w r h = NF-of-values (single w) (replaced P r) (λ φ. eval-single R w (value P ends φ) ∙ value-first φ w r h ∙ sym (eval-replaced P r (value P ends φ)))
 
   pub NF-append : (f g : FreeSum R) → NF P ends (f ++ g) ≈ NF P ends f ++ NF P ends g
   NF-append f g =
       ≈-of-eval (NF P ends (f ++ g)) (NF P ends f ++ NF P ends g)
-      (λ φ. eval-NF (f ++ g) φ ∙ eval-append f g (λ w. eval (nf P ends w) φ) ∙ sym (eval-append (NF P ends f) (NF P ends g) φ ∙ ap₂ (R .add) (eval-NF f φ) (eval-NF g φ)))
+      (λ φ. eval-NF (f ++ g) φ ∙ eval-append f g (value P ends φ) ∙ sym (eval-append (NF P ends f) (NF P ends g) φ ∙ ap₂ (R .add) (eval-NF f φ) (eval-NF g φ)))
 
   pub NF-scale : (r : R .carrier) (f : FreeSum R) → NF P ends (scale r f) ≈ scale r (NF P ends f)
   NF-scale r f =
       ≈-of-eval (NF P ends (scale r f)) (scale r (NF P ends f))
-      (λ φ. eval-NF (scale r f) φ ∙ eval-scale r f (λ w. eval (nf P ends w) φ) ∙ sym (eval-scale r (NF P ends f) φ ∙ ap (R .mul r) (eval-NF f φ)))
+      (λ φ. eval-NF (scale r f) φ ∙ eval-scale r f (value P ends φ) ∙ sym (eval-scale r (NF P ends f) φ ∙ ap (R .mul r) (eval-NF f φ)))
 
   pub NF-negate : (f : FreeSum R) → NF P ends (negate f) ≈ negate (NF P ends f)
   NF-negate f =
       ≈-of-eval (NF P ends (negate f)) (negate (NF P ends f))
-      (λ φ. eval-NF (negate f) φ ∙ eval-negate f (λ w. eval (nf P ends w) φ) ∙ sym (eval-negate (NF P ends f) φ ∙ ap (R .neg) (eval-NF f φ)))
+      (λ φ. eval-NF (negate f) φ ∙ eval-negate f (value P ends φ) ∙ sym (eval-negate (NF P ends f) φ ∙ ap (R .neg) (eval-NF f φ)))
 
   pub NF-standard : (f : FreeSum R) → AllStandard (NF P ends f)
   unfolding NF
-  NF-standard f t o = let h = occurs-bind f (nf P ends) t o in nf-words (λ _. Unit {0}) (λ _ _ _ _. tt) (h .0) tt t (h .2) .0
+  NF-standard f t o = let h = occurs-bind f (nf P ends) t o in nf-words P ends (λ _. Unit {0}) (λ _ _ _ _. tt) (h .0) tt t (h .2) .0
 
   -- a sum of standard words is its own normal form
   pub NF-of-standard : (s : FreeSum R) → AllStandard s → NF P ends s ≈ s
-  NF-of-standard s h = ≈-of-eval (NF P ends s) s (λ φ. eval-NF s φ ∙ eval-cong s (λ w. eval (nf P ends w) φ) φ (λ x o. ap (λ f. eval f φ) (nf-standard x (h x o)) ∙ eval-single R x φ))
+  NF-of-standard s h = ≈-of-eval (NF P ends s) s (λ φ. eval-NF s φ ∙ eval-cong s (value P ends φ) φ (λ x o. value-standard φ x (h x o)))

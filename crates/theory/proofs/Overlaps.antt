@@ -6,15 +6,14 @@ use Prim.Native.Nat.{ℕ}
 use native.Mathlib.Omega.{arith}
 use Rattle.theory.specs.Ring.{CommutativeRing}
 use Rattle.theory.specs.FreeSum.{Word, place, FreeSum, _≈_, negate, around}
-use Rattle.theory.specs.Words.{Standard, Inversion}
+use Rattle.theory.specs.Words.{Standard}
 use Rattle.theory.specs.Relations.{Relations, Pair, Triple, rhs, overlap, nondegeneracy}
 use Rattle.theory.specs.Rewriting.{Below}
 use Rattle.theory.specs.NormalForm.{NF}
 use Rattle.theory.proofs.RingLaws as ring
 use Rattle.theory.proofs.Eval.{eval, eval-append, eval-scale, eval-negate, eval-around}
-use Rattle.theory.proofs.Equality.{≈-of-eval}
 use Rattle.theory.proofs.Relations.{rhs-pair, pair-ji, pair-kj, pair-ki}
-use Rattle.theory.proofs.NormalForm.{value, eval-nf-replaced, nf-first, eval-NF}
+use Rattle.theory.proofs.NormalForm.{value, value-first, NF-of-values}
 
 -- the two ways of x_k x_j x_i to x_i x_j x_k meet, and what is left of their difference are the tails
 module _ (R : CommutativeRing) where
@@ -65,10 +64,8 @@ module _ {R : CommutativeRing} (P : Relations R) (ends : WellFounded (Below P)) 
 
   pub value-leftmost : (u : Word) (j i : ℕ) (v : Word) → Pair (P .n) j i → Standard (u ++ (j ∷ []))
       → N (place u (j ∷ i ∷ []) v) ≡ R .add (R .mul (P .factor j i) (N (place u (i ∷ j ∷ []) v))) (eval (P .tail j i) (λ x. N (place u x v)))
-  unfolding value
   value-leftmost u j i v p s =
-      let r : Inversion (place u (j ∷ i ∷ []) v) = record { before = u; j = j; i = i; after = v; split = refl; falls = p .falls } in
-      ap (λ f. eval f φ) (nf-first P ends (place u (j ∷ i ∷ []) v) r s) ∙ eval-nf-replaced P ends r φ ∙ eval-rhs P j i p (λ x. N (place u x v))
+      value-first P ends φ (place u (j ∷ i ∷ []) v) (record { before = u; j = j; i = i; after = v; split = refl; falls = p .falls }) s ∙ eval-rhs P j i p (λ x. N (place u x v))
 
   module _ (i j k : ℕ) (t : Triple (P .n) i j k) where
     -- the value of a tail with a letter on its right or on its left
@@ -110,7 +107,4 @@ module _ {R : CommutativeRing} (P : Relations R) (ends : WellFounded (Below P)) 
 
 pub overlap-nondegeneracy : {R : CommutativeRing} (P : Relations R) (ends : WellFounded (Below P)) (i j k : ℕ) → Triple (P .n) i j k
     → NF P ends (overlap P i j k) ≈ NF P ends (nondegeneracy P i j k)
-unfolding value
-overlap-nondegeneracy P ends i j k t =
-    ≈-of-eval (NF P ends (overlap P i j k)) (NF P ends (nondegeneracy P i j k))
-    (λ φ. eval-NF P ends (overlap P i j k) φ ∙ value-overlap P ends φ i j k t ∙ sym (eval-NF P ends (nondegeneracy P i j k) φ))
+overlap-nondegeneracy P ends i j k t = NF-of-values P ends (overlap P i j k) (nondegeneracy P i j k) (λ φ. value-overlap P ends φ i j k t)

@@ -11,10 +11,10 @@ use Rattle.theory.specs.Rewriting.{Ended, replaced, Below, rewritten, Rewritin
 use Rattle.theory.specs.NormalForm.{NF, Resolves}
 use Rattle.theory.proofs.RingLaws as ring
 use Rattle.theory.proofs.Eval.{eval, eval-append, eval-single, eval-scale, eval-negate}
-use Rattle.theory.proofs.Equality.{eval-≈, ≈-of-eval}
+use Rattle.theory.proofs.Equality.{eval-≈}
 use Rattle.theory.proofs.Congruence.{congruent-≈, congruent-equal, congruent-sym, congruent-trans, congruent-append, congruent-scale, congruent-replaced}
 use Rattle.theory.proofs.Standard.{only-standard, only-standard-standard, ended-only-standard}
-use Rattle.theory.proofs.NormalForm.{value, eval-at, eval-replaced, eval-NF, NF-≈, NF-of-standard}
+use Rattle.theory.proofs.NormalForm.{value, eval-at, eval-replaced, NF-of-values, NF-≈, NF-of-standard}
 use Rattle.theory.proofs.Diamond.{value-at, diamond}
 
 module _ {R : CommutativeRing} (P : Relations R) where
@@ -75,10 +75,8 @@ module _ {R : CommutativeRing} (P : Relations R) where
 
 module _ {R : CommutativeRing} (P : Relations R) (ends : WellFounded (Below P)) (tails : TailsOver P) (res : Resolves P ends) where
   pub rewriting-NF : (f g : FreeSum R) → Rewriting P f g → NF P ends f ≈ NF P ends g
-  unfolding value value-at
-  rewriting-NF f g t =
-      ≈-of-eval (NF P ends f) (NF P ends g)
-      (λ φ. eval-NF P ends f φ ∙ rewriting-value P (value P ends φ) (diamond P ends tails res φ) t ∙ sym (eval-NF P ends g φ))
+  unfolding value-at
+  rewriting-NF f g t = NF-of-values P ends f g (λ φ. rewriting-value P (value P ends φ) (diamond P ends tails res φ) t)
 
   pub rewriting-ends : (f g : FreeSum R) → Rewriting P f g → Ended g → g ≈ NF P ends f
   rewriting-ends f g t h w =

@@ -1,10 +1,9 @@
 -- The theorems, each from the file that proves it.
-use mathlib.Core.Path.{_∙_}
 use Rattle.theory.specs.Ring.{CommutativeRing}
 use Rattle.theory.specs.FreeSum.{_≈_}
 use Rattle.theory.specs.Theorems.{Normal-forms, Diamond-lemma, Basis-iff-resolves, Rewriting-is-congruent, No-endless-rewriting, Operations-respect-congruence}
-use Rattle.theory.proofs.NormalForm.{NF-single, NF-replaced-first, NF-of-standard, NF-standard, NF-≈, NF-append, NF-negate, NF-scale}
-use Rattle.theory.proofs.Diamond.{nf-replaced-any}
+use Rattle.theory.proofs.NormalForm.{NF-first, NF-of-standard, NF-standard, NF-≈, NF-append, NF-negate, NF-scale}
+use Rattle.theory.proofs.Diamond.{NF-any}
 use Rattle.theory.proofs.Basis.{NF-over, congruent-NF, NF-congruent, basis-of-resolves, resolves-of-basis}
 use Rattle.theory.proofs.Congruence.{congruent-≈, congruent-sym, congruent-trans, congruent-append, congruent-negate, congruent-scale}
 use Rattle.theory.proofs.Products.{congruent-times}
@@ -13,7 +12,7 @@ use Rattle.theory.proofs.Terminates.{active-ends, no-endless}
 
 pub normal-forms : {R : CommutativeRing} → Normal-forms R
 normal-forms P ends tails = record {
-  leftmost = NF-replaced-first P ends;
+  leftmost = NF-first P ends;
   stay = NF-of-standard P ends;
   standard = NF-standard P ends;
   equal = NF-≈ P ends;
@@ -26,7 +25,7 @@ normal-forms P ends tails = record {
 
 pub diamond-lemma : {R : CommutativeRing} → Diamond-lemma R
 diamond-lemma P ends tails res = record {
-  any-inversion = λ w over r x. NF-single P ends w x ∙ nf-replaced-any P ends tails res w over r x;
+  any-inversion = NF-any P ends tails res;
   congruent-equal = NF-congruent P ends tails res;
 }
 

@@ -19,7 +19,7 @@ Before [] b = ⊥
 Before (x ∷ a) [] = ⊥
 Before (x ∷ a) (y ∷ b) = (x < y) ⊎ ((x ≡ y) × Before a b)
 
--- a key for each word. As keys add up, they depend on how often each letter occurs only
+-- a key for each word. As keys add up, they depend only on how often each letter occurs; that they tell these counts apart is not needed here
 pub record Keys : Type 0 where
   pub width : ℕ
   pub key : Word → List ℕ
