@@ -18,4 +18,6 @@ pub mod Standardise
 pub mod Terminates
 pub mod Ends
 pub mod Theorems
-pub mod Examples
+pub mod Degree
+pub mod Weyl
+pub mod Sl2

@@ -1,4 +1,4 @@
-use Rattle.theory.proofs.Examples.{sl2-resolves}
+use Rattle.theory.proofs.Sl2.{sl2-resolves}
 use Rattle.theory.proofs.sl2_resolves.Needs as need
 
 pub returns : need.returns

@@ -1,4 +1,4 @@
-use Rattle.theory.proofs.Examples.{weyl-resolves}
+use Rattle.theory.proofs.Weyl.{weyl-resolves}
 use Rattle.theory.proofs.weyl_algebra_resolves.Needs as need
 
 pub returns : need.returns

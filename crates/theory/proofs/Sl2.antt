@@ -1,96 +1,26 @@
--- The examples: by degree, rewriting ends; the non-degeneracy condition gives the overlaps.
+-- The relations of sl2 with c in the third tail: the overlap comes to (c − 2) x3, so that they resolve for c = 2, and for c = 1 do not.
 use mathlib.Core.Path.{_≡_, refl, sym, ap, ap₂, subst, _∙_}
-use mathlib.Core.Logic.{inl}
 use mathlib.Core.Bool.{Bool, true, false, cond}
 use mathlib.Core.List.{[], _∷_}
 use mathlib.Core.WellFounded.{WellFounded}
-use Prim.Native.Nat.{ℕ, _+_, _≤_, _<_}
+use Prim.Native.Nat.{ℕ, _≤_}
 use native.Mathlib.Omega.{arith}
 use lib.Dec.{eqb}
-use lib.ListN.{length, length-append}
 use Rattle.theory.specs.Ring.{CommutativeRing}
-use Rattle.theory.specs.FreeSum.{Word, place, Occurs, coeff, _≈_, single, scale, negate}
-use Rattle.theory.specs.Words.{Over}
-use Rattle.theory.specs.Relations.{Relations, Pair, Triple, TailsOver, overlap, nondegeneracy}
+use Rattle.theory.specs.FreeSum.{Word, place, Occurs, coeff, _≈_, scale, negate}
+use Rattle.theory.specs.Relations.{Pair, Triple, overlap, nondegeneracy}
 use Rattle.theory.specs.Rewriting.{Below}
 use Rattle.theory.specs.NormalForm.{NF, Resolves}
-use Rattle.theory.specs.Keys.{Keys, TailsFall}
-use Rattle.theory.specs.Examples.{generator, weyl, two, sl2, halved, Weyl-resolves, Sl2-resolves, Halved-sl2}
+use Rattle.theory.specs.Examples.{generator, two, sl2, halved, Sl2-resolves, Halved-sl2}
 use Rattle.theory.proofs.RingLaws as ring
-use Rattle.theory.proofs.Eval.{eval, eval-nil, eval-single, eval-scale, eval-negate, eval-cong}
+use Rattle.theory.proofs.Eval.{eval, eval-nil, eval-single, eval-scale, eval-negate}
 use Rattle.theory.proofs.Equality.{coeff-eval, indicator, indicator-same, ≈-of-eval}
 use Rattle.theory.proofs.Occurs.{occurs-single, occurs-scale, occurs-negate}
-use Rattle.theory.proofs.NormalForm.{value, value-standard, eval-NF, NF-≈, NF-of-standard}
+use Rattle.theory.proofs.NormalForm.{value, value-standard, eval-NF}
 use Rattle.theory.proofs.Relations.{pair-ji}
-use Rattle.theory.proofs.Ends.{ends-by-keys}
 use Rattle.theory.proofs.Basis.{basis-of-resolves, resolves-of-basis}
 use Rattle.theory.proofs.Overlaps.{value-leftmost, eval-nondegeneracy, overlap-nondegeneracy}
-
--- BY DEGREE
-
-degree : Keys
-degree = record { width = 1; key = λ w. length w ∷ []; key-length = λ w. refl; key-join = λ u v. ap (λ n. n ∷ []) (length-append u v) }
-
--- tails of words with at most one letter, which is one of 1 to n
-record Short (n : ℕ) (t : Word) : Type 0 where
-  short : length t < 2
-  over : Over n t
-
-module _ {R : CommutativeRing} (P : Relations R) (short : (j i : ℕ) → Pair (P .n) j i → (t : Word) → Occurs t (P .tail j i) → Short (P .n) t) where
-  short-fall : TailsFall P degree
-  unfolding degree
-  short-fall j i p t o = inl (short j i p t o .short)
-
-  short-ends : WellFounded (Below P)
-  short-ends = ends-by-keys P degree short-fall
-
-  short-over : TailsOver P
-  short-over j i p t o = short j i p t o .over
-
--- WEYL ALGEBRAS
-
-module _ (R : CommutativeRing) (m : ℕ) where
-  scalar : (b : Bool) (t : Word) → Occurs t (cond b (single {R = R} []) []) → t ≡ []
-  scalar true t o = occurs-single R t [] o
-  scalar false t o = absurd o
-
-  weyl-short : (j i : ℕ) → Pair (m + m) j i → (t : Word) → Occurs t (weyl R m .tail j i) → Short (m + m) t
-  weyl-short j i p t o = subst (Short (m + m)) (sym (scalar (eqb j (m + i)) t o)) (record { short = omega arith; over = tt })
-
-  weyl-ends : WellFounded (Below (weyl R m))
-  weyl-ends = short-ends (weyl R m) weyl-short
-
-  module _ (φ : Word → R .carrier) where
-    -- a letter may stand on either side of a scalar
-    moves : (j i x : ℕ) → eval (weyl R m .tail j i) (λ w. φ (place (x ∷ []) w [])) ≡ eval (weyl R m .tail j i) (λ w. φ (place [] w (x ∷ [])))
-    unfolding place
-    moves j i x =
-        eval-cong (weyl R m .tail j i) (λ w. φ (place (x ∷ []) w [])) (λ w. φ (place [] w (x ∷ [])))
-        (λ t o. ap (λ w. φ (place (x ∷ []) w [])) (scalar (eqb j (m + i)) t o) ∙ sym (ap (λ w. φ (place [] w (x ∷ []))) (scalar (eqb j (m + i)) t o)))
-
-    cancels : (p q r p′ q′ r′ : R .carrier) → p′ ≡ p → q′ ≡ q → r′ ≡ r
-        → R .add (R .mul (R .mul (R .one) (R .one)) p) (R .add (R .neg p′) (R .add (R .mul (R .one) q′) (R .add (R .neg (R .mul (R .one) q)) (R .add r (R .neg (R .mul (R .mul (R .one) (R .one)) r′)))))) ≡ R .zero
-    cancels p q r p′ q′ r′ a b c =
-        (λ z. R .add (R .mul (R .mul (R .one) (R .one)) p) (R .add (R .neg (a z)) (R .add (R .mul (R .one) (b z)) (R .add (R .neg (R .mul (R .one) q)) (R .add r (R .neg (R .mul (R .mul (R .one) (R .one)) (c z))))))))
-        ∙ simp (ring.one-mul R, ring.add-neg-left R, ring.add-neg R)
-
-    weyl-condition : (i j k : ℕ) → eval (nondegeneracy (weyl R m) i j k) φ ≡ eval {R = R} [] φ
-    weyl-condition i j k = eval-nondegeneracy (weyl R m) i j k φ ∙ cancels _ _ _ _ _ _ (moves j i k) (moves k i j) (moves k j i) ∙ sym (eval-nil R φ)
-
-  weyl-overlaps : Resolves (weyl R m) weyl-ends
-  weyl-overlaps i j k t w =
-      overlap-nondegeneracy (weyl R m) weyl-ends i j k t w
-      ∙ NF-≈ (weyl R m) weyl-ends (nondegeneracy (weyl R m) i j k) [] (≈-of-eval (nondegeneracy (weyl R m) i j k) [] (λ φ. weyl-condition φ i j k)) w
-      ∙ NF-of-standard (weyl R m) weyl-ends [] (λ t o. absurd o) w
-
-pub weyl-resolves : {R : CommutativeRing} → Weyl-resolves R
-weyl-resolves {R} m = record {
-  ends = weyl-ends R m;
-  resolves = weyl-overlaps R m;
-  basis = basis-of-resolves (weyl R m) (weyl-ends R m) (short-over (weyl R m) (weyl-short R m)) (weyl-overlaps R m);
-}
-
--- SL2
+use Rattle.theory.proofs.Degree.{Short, short-ends, short-over}
 
 module _ (R : CommutativeRing) where
   open CommutativeRing R using (carrier, add, mul, neg, one)
