@@ -9,6 +9,7 @@ pub mod NormalForm
 pub mod Standard
 pub mod Congruence
 pub mod Products
+pub mod Letters
 pub mod Overlaps
 pub mod Diamond
 pub mod Basis

@@ -7,7 +7,7 @@ use native.Mathlib.Omega.{arith}
 use Rattle.theory.specs.Ring.{CommutativeRing}
 use Rattle.theory.specs.FreeSum.{Word, Occurs}
 use Rattle.theory.specs.Words.{Letter, Over, Inversion, OverSum}
-use Rattle.theory.specs.Relations.{Relations, Pair, pair?, only, Triple, tail-of, rhs, TailsOver}
+use Rattle.theory.specs.Relations.{Relations, Pair, pair?, keep, Triple, tail-of, rhs, TailsOver}
 use Rattle.theory.specs.Rewriting.{Reduct, Below, below-one, below-more}
 use Rattle.theory.proofs.Words.{over-place, over-place-join}
 
@@ -33,7 +33,7 @@ module _ {R : CommutativeRing} (P : Relations R) where
   unfolding tail-of
   tail-of-pair j i p = go (pair? (P .n) j i)
     where
-      go : (d : Dec (Pair (P .n) j i)) → only d (P .tail j i) ≡ P .tail j i
+      go : (d : Dec (Pair (P .n) j i)) → keep d (P .tail j i) ≡ P .tail j i
       go (yes _) = refl
       go (no n) = absurd (n p)
 
@@ -46,7 +46,7 @@ module _ {R : CommutativeRing} (P : Relations R) where
   unfolding tail-of
   occurs-tail-of j i t = go (pair? (P .n) j i)
     where
-      go : (d : Dec (Pair (P .n) j i)) → Occurs t (only d (P .tail j i)) → Pair (P .n) j i × Occurs t (P .tail j i)
+      go : (d : Dec (Pair (P .n) j i)) → Occurs t (keep d (P .tail j i)) → Pair (P .n) j i × Occurs t (P .tail j i)
       go (yes p) o = (p, o)
       go (no n) o = absurd o
 

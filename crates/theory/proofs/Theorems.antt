@@ -7,6 +7,7 @@ use Rattle.theory.proofs.Diamond.{NF-any}
 use Rattle.theory.proofs.Basis.{NF-over, congruent-NF, NF-congruent, basis-of-resolves, resolves-of-basis}
 use Rattle.theory.proofs.Congruence.{congruent-≈, congruent-sym, congruent-trans, congruent-append, congruent-negate, congruent-scale}
 use Rattle.theory.proofs.Products.{congruent-times}
+use Rattle.theory.proofs.Letters.{append-over, scale-over, negate-over, times-over}
 use Rattle.theory.proofs.Rewriting.{rewriting-congruent}
 use Rattle.theory.proofs.Terminates.{active-ends, no-endless}
 
@@ -43,8 +44,12 @@ operations-respect-congruence P = record {
   equal = congruent-≈ P;
   symmetric = congruent-sym P;
   transitive = congruent-trans P;
-  sum = λ f f′ g g′ c d. congruent-append P f f′ g g′ c d;
+  sum = congruent-append P;
   negative = congruent-negate P;
   scaled = congruent-scale P;
   product = congruent-times P;
+  over-sum = append-over (P .n);
+  over-negative = negate-over (P .n);
+  over-scaled = scale-over (P .n);
+  over-product = times-over (P .n);
 }

@@ -6,7 +6,7 @@ use Rattle.theory.specs.Ring.{CommutativeRing}
 use Rattle.theory.specs.FreeSum.{FreeSum, single, scale, negate, around}
 use Rattle.theory.specs.Words.{OverSum}
 
--- what is given for other numbers than a pair means nothing
+-- n generators, and for each pair of them a factor and a tail; what is given for other numbers means nothing
 pub record Relations (R : CommutativeRing) : Type 0 where
   pub n : ℕ
   pub factor : ℕ → ℕ → R .carrier
@@ -28,9 +28,9 @@ pair? n j i = go (decLe 1 i) (decLt i j) (decLe j n)
     go (yes a) (yes b) (no c) = no (λ p. c (p .high))
 
 -- f where the test passed, else no term
-abbrev pub only {ℓ} : {R : CommutativeRing} {A : Type ℓ} → Dec A → FreeSum R → FreeSum R
-only (yes p) f = f
-only (no n) f = []
+abbrev pub keep {ℓ} : {R : CommutativeRing} {A : Type ℓ} → Dec A → FreeSum R → FreeSum R
+keep (yes p) f = f
+keep (no n) f = []
 
 -- 1 ≤ i < j < k ≤ n
 pub record Triple (n i j k : ℕ) : Type 0 where
@@ -42,7 +42,7 @@ pub record Triple (n i j k : ℕ) : Type 0 where
 module _ {R : CommutativeRing} (P : Relations R) where
   -- the tail of a pair; other letters have none
   unfoldable pub tail-of : ℕ → ℕ → FreeSum R
-  tail-of j i = only (pair? (P .n) j i) (P .tail j i)
+  tail-of j i = keep (pair? (P .n) j i) (P .tail j i)
 
   -- what x_j x_i is replaced by: factor x_i x_j + tail
   unfoldable pub rhs : ℕ → ℕ → FreeSum R

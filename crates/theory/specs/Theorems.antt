@@ -82,6 +82,7 @@ No-endless-rewriting R = (P : Relations R) → WellFounded (Below P) → Termina
 -- THE QUOTIENT
 
 pub record QuotientOperations {R : CommutativeRing} (P : Relations R) : Type 0 where
+  -- congruence is an equivalence, and the operations respect it
   pub equal : (f g : FreeSum R) → f ≈ g → Congruent P f g
   pub symmetric : (f g : FreeSum R) → Congruent P f g → Congruent P g f
   pub transitive : (f g h : FreeSum R) → Congruent P f g → Congruent P g h → Congruent P f h
@@ -89,6 +90,11 @@ pub record QuotientOperations {R : CommutativeRing} (P : Relations R) : Type 0 w
   pub negative : (f f′ : FreeSum R) → Congruent P f f′ → Congruent P (negate f) (negate f′)
   pub scaled : (r : R .carrier) (f f′ : FreeSum R) → Congruent P f f′ → Congruent P (scale r f) (scale r f′)
   pub product : (f f′ g g′ : FreeSum R) → OverSum (P .n) f′ → OverSum (P .n) g → Congruent P f f′ → Congruent P g g′ → Congruent P (times f g) (times f′ g′)
+  -- the free sums in the letters 1 to n are closed under the operations
+  pub over-sum : (f g : FreeSum R) → OverSum (P .n) f → OverSum (P .n) g → OverSum (P .n) (f ++ g)
+  pub over-negative : (f : FreeSum R) → OverSum (P .n) f → OverSum (P .n) (negate f)
+  pub over-scaled : (r : R .carrier) (f : FreeSum R) → OverSum (P .n) f → OverSum (P .n) (scale r f)
+  pub over-product : (f g : FreeSum R) → OverSum (P .n) f → OverSum (P .n) g → OverSum (P .n) (times f g)
 
 abbrev pub Operations-respect-congruence : CommutativeRing → Type 0
 Operations-respect-congruence R = (P : Relations R) → QuotientOperations P
