@@ -1,1 +1,11 @@
 pub mod Ring
+pub mod FreeSum
+pub mod Words
+pub mod Relations
+pub mod Congruence
+pub mod Basis
+pub mod Rewriting
+pub mod NormalForm
+pub mod Keys
+pub mod Theorems
+pub mod Examples
