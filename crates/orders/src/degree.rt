@@ -5,6 +5,7 @@ ghost use Rattle.orders.specs.Models.{degree-model};
 ghost use Rattle.orders.specs.Orders.{dot};
 ghost use Rattle.orders.specs.Weights.{weight-values};
 use crate::image::Image;
+use crate::letter::LETTERS;
 use crate::order::MonomialOrder;
 use crate::weight::Weight;
 use crate::weight::WeightDebug;
@@ -13,11 +14,11 @@ use std::cmp::Ordering;
 // By the weighted count, then by the counts as lex does.
 #[derive(Clone, Copy, Debug)]
 pub struct Degree {
-    weights: [Weight; 8],
+    weights: [Weight; LETTERS],
 }
 
 impl Degree {
-    pub fn new(weights: [Weight; 8]) -> Degree
+    pub fn new(weights: [Weight; LETTERS]) -> Degree
         ensures { λ r. ⌜ r .weights ≡ weights ⌝ }
     {
         Degree { weights }
@@ -29,7 +30,7 @@ impl Degree {
     {
         let counts = image.counts();
         let mut sum = 0u32;
-        for i in 0..8usize {
+        for i in 0..LETTERS {
             sum += self.weights[i].value() as u32 * counts[i] as u32;
         }
         sum

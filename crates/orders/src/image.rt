@@ -3,6 +3,7 @@ ghost use mathlib.Core.Path.{_≡_};
 ghost use Rattle.orders.specs.Letters.{letters, image};
 ghost use Rattle.orders.specs.Orders.{first-difference};
 ghost use Rattle.orders.specs.Images.{counts as counts-of};
+use crate::letter::LETTERS;
 use crate::letter::Row;
 use crate::letter::is_letter;
 use std::cmp::Ordering;
@@ -29,7 +30,7 @@ impl Image {
     }
 
     // The counts of x1, x2 and so on.
-    pub fn counts(&self) -> [u8; 8]
+    pub fn counts(&self) -> [u8; LETTERS]
         ensures { λ r. ⌜ r ≡ counts-of (now (self .entry)) ⌝ }
     {
         self.packed.to_be_bytes()

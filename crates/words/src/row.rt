@@ -3,12 +3,13 @@ ghost use mathlib.Core.Path.{_≡_};
 ghost use Prim.Native.Nat.{_≤_};
 ghost use lib.ListN.{length};
 ghost use mathlib.Core.Bool.{cond};
-ghost use Rattle.orders.specs.Letters.{letters, is-letter};
+ghost use Rattle.orders.specs.Letters.{letters, is-letter, row-length};
 ghost use Rattle.orders.specs.Orders.{first-difference, numbers};
 ghost use Rattle.words.specs.Compare.{compare-words};
 ghost use Rattle.words.specs.Inversions.{inversions as inversions-of, standard, leftmost-inversion};
 ghost use Rattle.words.specs.Laws.{StandardWords};
 use orders::image::Image;
+use orders::letter::ROW_LENGTH;
 use orders::letter::Row;
 use orders::letter::is_letter;
 use orders::order::MonomialOrder;
@@ -17,7 +18,7 @@ use std::cmp::Ordering;
 // How many letters there are.
 pub fn row_length(row: &Row) -> usize
     ensures value { λ r. ⌜ r ≡ length (letters (now (row .entry))) ⌝ }
-    ensures bound { λ r. ⌜ r ≤ 32 ⌝ }
+    ensures bound { λ r. ⌜ r ≤ row-length ⌝ }
 {
     let mut n = 0;
     for x in row {
@@ -54,7 +55,7 @@ pub fn row_leftmost_inversion(row: &Row) -> Option<usize>
     if !is_letter(row[0]) {
         return None;
     }
-    for i in 1..32usize {
+    for i in 1..ROW_LENGTH {
         if !is_letter(row[i]) {
             return None;
         }
@@ -116,7 +117,7 @@ fn letter_or_zero(x: u8) -> u8
 pub(crate) fn first_letter_difference(a: &Row, b: &Row) -> Ordering
     ensures { λ r. ⌜ r ≡ first-difference (letters (now (a .entry))) (letters (now (b .entry))) ⌝ }
 {
-    for i in 0..32 {
+    for i in 0..ROW_LENGTH {
         let x = letter_or_zero(a[i]);
         let y = letter_or_zero(b[i]);
         if x < y {

@@ -1,6 +1,7 @@
 // Terms: a word in a row, and the code of its coefficient.
 ghost use mathlib.Core.Path.{_≡_};
 ghost use Rattle.words.specs.Terms.{blank as blank-term};
+use orders::letter::ROW_LENGTH;
 use orders::letter::Row;
 
 #[derive(Clone, Copy, PartialEq, Eq, Debug)]
@@ -14,7 +15,7 @@ impl Term {
     pub fn blank() -> Term
         ensures { λ r. ⌜ r ≡ blank-term ⌝ }
     {
-        let row = [0; 32];
+        let row = [0; ROW_LENGTH];
         Term { row, code: 0 }
     }
 }

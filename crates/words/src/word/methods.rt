@@ -2,9 +2,10 @@
 ghost use mathlib.Core.Path.{_≡_};
 ghost use mathlib.Core.Bool.{true, false};
 ghost use mathlib.Core.List.{[]};
+ghost use Prim.Native.Nat.{_≤_};
 ghost use lib.ListN.{length};
 ghost use Rattle.std.specs.Results.{Cases};
-ghost use Rattle.orders.specs.Letters.{letters, image as image-of};
+ghost use Rattle.orders.specs.Letters.{image as image-of, row-length};
 ghost use Rattle.orders.specs.Images.{counts};
 ghost use Rattle.words.specs.Compare.{compare-words};
 ghost use Rattle.words.specs.Faults.{refusal-of};
@@ -22,6 +23,8 @@ use crate::row::row_length;
 use crate::word::Word;
 use crate::word::WordFault;
 use orders::image::Image;
+use orders::letter::LETTERS;
+use orders::letter::ROW_LENGTH;
 use orders::letter::Row;
 use orders::letter::is_letter;
 use orders::order::MonomialOrder;
@@ -59,7 +62,9 @@ impl Word {
     pub fn empty() -> Word
         ensures { λ r. ⌜ spelled r ≡ [] ⌝ }
     {
-        Word { row: [0; 32] }
+        Word {
+            row: [0; ROW_LENGTH],
+        }
     }
 
     pub fn from_row(row: Row) -> Result<Word, WordFault>
@@ -77,11 +82,11 @@ impl Word {
         ensures answer { λ r. ⌜ r ≡ answer (grown (spelled (now (self .entry))) letter) ⌝ }
         ensures after { λ _. ⌜ spelled (now (self .exit)) ≡ value-or (spelled (now (self .entry))) (grown (spelled (now (self .entry))) letter) ⌝ }
     {
-        if letter == 0 || letter > 8 {
+        if letter == 0 || letter > LETTERS as u64 {
             return Err(WordFault::BadLetter);
         }
         let n = self.len();
-        if n >= 32 {
+        if n >= ROW_LENGTH {
             return Err(WordFault::TooLong);
         }
         self.row[n] = letter as u8;
@@ -97,7 +102,8 @@ impl Word {
     }
 
     pub fn len(&self) -> usize
-        ensures { λ r. ⌜ r ≡ length (spelled (now (self .entry))) ⌝ }
+        ensures value { λ r. ⌜ r ≡ length (spelled (now (self .entry))) ⌝ }
+        ensures bound { λ r. ⌜ r ≤ row-length ⌝ }
     {
         row_length(&self.row)
     }

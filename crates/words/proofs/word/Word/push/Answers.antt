@@ -17,14 +17,14 @@ letter x n h = and-from (ltb 0 x) (leb x 8) (lt-ltb 0 x (omega arith)) (le-leb x
 pub ghost-self : need.ghost-self
 ghost-self c =
     let row = c .args .self .now .row in
-    let e = c .len-n .ensures in
+    let e = c .len-n .ensures .value in
     (subst (λ n. is-row (set row n (c .args .letter)) ≡ true) (sym e) (row-push row (c .args .letter) (c .args .self .now .filled) (omega arith) (letter (c .args .letter) (c .if-letter-eq0 .left) (omega arith))), tt)
 
 pub returns : need.returns
 returns c =
     let row = c .args .self .now .row in
     let x = c .args .letter in
-    let e = c .len-n .ensures in
+    let e = c .len-n .ensures .value in
     let a = letter x (c .if-letter-eq0 .left) (omega arith) in
     let l : ltb (length (letters row)) 32 ≡ true = lt-ltb _ _ (omega arith) in
     record {
