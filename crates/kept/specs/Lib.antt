@@ -1,0 +1,5 @@
+pub mod Faults
+pub mod Terms
+pub mod Kept
+pub mod Falling
+pub mod Post
