@@ -42,9 +42,8 @@ merge-ok x xs ys (Ok c) h = at (eqb c 0) h
 merge-ok x xs ys (Err e) h = let z : _≡_ {A = ℕ} 0 1 = cc in absurd (omega arith)
 
 module _ (m : Coding) (o : OrderModel) (room : ℕ) (t : Term)
-  (flip : (x y : Term) → compare-terms o x y ≡ Less → compare-terms o y x ≡ Greater)
-  (trans : (x y z : Term) → compare-terms o x y ≡ Greater → compare-terms o y z ≡ Greater → compare-terms o x z ≡ Greater) where
-
+    (flip : (x y : Term) → compare-terms o x y ≡ Less → compare-terms o y x ≡ Greater)
+    (trans : (x y z : Term) → compare-terms o x y ≡ Greater → compare-terms o y z ≡ Greater → compare-terms o x z ≡ Greater) where
   -- the list falls, and what was above the list and t is above it
   abbrev pub Good : List Term → List Term → Type 0
   Good xs ys = Falls o ys × ((z : Term) → Above o z xs → compare-terms o z t ≡ Greater → Above o z ys)
@@ -68,9 +67,9 @@ module _ (m : Coding) (o : OrderModel) (room : ℕ) (t : Term)
   after-merge x xs ys f (stays c e) = subst (λ l. Good (x ∷ xs) l) (sym e) ((same-row x c xs (f .0), f .1), λ z a _. same-row-below z x c a)
 
   by : (x : Term) (xs ys : List Term) → Falls o (x ∷ xs)
-    → ((zs : List Term) → placed m o room t xs ≡ Ok zs → Good xs zs)
-    → (r : Ordering) → compare-terms o x t ≡ r
-    → by-order r (fresh room t (x ∷ xs)) (merged x xs (m .sum (x .code) (t .code))) (onto x (placed m o room t xs)) ≡ Ok ys → Good (x ∷ xs) ys
+      → ((zs : List Term) → placed m o room t xs ≡ Ok zs → Good xs zs)
+      → (r : Ordering) → compare-terms o x t ≡ r
+      → by-order r (fresh room t (x ∷ xs)) (merged x xs (m .sum (x .code) (t .code))) (onto x (placed m o room t xs)) ≡ Ok ys → Good (x ∷ xs) ys
   by x xs ys f below Less e h = subst (λ l. Good (x ∷ xs) l) (sym (full room t (x ∷ xs) ys h)) ((flip x t e, f), λ z _ g. g)
   by x xs ys f below Equal e h = after-merge x xs ys f (merge-ok x xs ys (m .sum (x .code) (t .code)) h)
   by x xs ys f below Greater e h =

@@ -24,7 +24,7 @@ use Rattle.coefficients.specs.declared.fault.RingFault.{RingFault}
 use lib.Dec.{eqb}
 
 pub place-more : (o : OrderModel) (t : Term) (xs : List Term) (p : ℕ) (d : Term) (r : Ordering) → p < length xs → r ≡ compare-terms o (getD xs p d) t
-  → (place o t (drop p xs) ≡ by-order r 0 0 (suc (place o t (drop (p + 1) xs)))) × (present o t (drop p xs) ≡ by-order r false true (present o t (drop (p + 1) xs)))
+    → (place o t (drop p xs) ≡ by-order r 0 0 (suc (place o t (drop (p + 1) xs)))) × (present o t (drop p xs) ≡ by-order r false true (present o t (drop (p + 1) xs)))
 place-more o t xs p d r h e = (rw (drop-more xs p d h, ← e), rw (drop-more xs p d h, ← e))
 
 onto-full : (x : Term) (l : List Term) (b : Bool) → onto x (cond b (Err Full) (Ok l)) ≡ cond b (Err Full) (Ok (x ∷ l))
@@ -50,9 +50,9 @@ merged-summed x xs d (Err e) = refl
 
 module _ (m : Coding) (o : OrderModel) (room : ℕ) (t : Term) where
   new-at : (x : Term) (xs : List Term)
-    → (present o t xs ≡ false → placed m o room t xs ≡ cond (eqb room 0) (Err Full) (Ok (inserted xs (place o t xs) t)))
-    → (r : Ordering) → by-order r false true (present o t xs) ≡ false
-    → by-order r (fresh room t (x ∷ xs)) (merged x xs (m .sum (x .code) (t .code))) (onto x (placed m o room t xs)) ≡ cond (eqb room 0) (Err Full) (Ok (inserted (x ∷ xs) (by-order r 0 0 (suc (place o t xs))) t))
+      → (present o t xs ≡ false → placed m o room t xs ≡ cond (eqb room 0) (Err Full) (Ok (inserted xs (place o t xs) t)))
+      → (r : Ordering) → by-order r false true (present o t xs) ≡ false
+      → by-order r (fresh room t (x ∷ xs)) (merged x xs (m .sum (x .code) (t .code))) (onto x (placed m o room t xs)) ≡ cond (eqb room 0) (Err Full) (Ok (inserted (x ∷ xs) (by-order r 0 0 (suc (place o t xs))) t))
   new-at x xs below Less h = refl
   new-at x xs below Equal h = absurd (true≢false h)
   new-at x xs below Greater h = ap (onto x) (below h) ∙ onto-full x (inserted xs (place o t xs) t) (eqb room 0)
@@ -62,9 +62,9 @@ module _ (m : Coding) (o : OrderModel) (room : ℕ) (t : Term) where
   placed-new (x ∷ xs) h = new-at x xs (placed-new xs) (compare-terms o x t) h
 
   here-at : (d x : Term) (xs : List Term)
-    → (present o t xs ≡ true → placed m o room t xs ≡ summed xs (place o t xs) d (m .sum (getD xs (place o t xs) d .code) (t .code)))
-    → (r : Ordering) → by-order r false true (present o t xs) ≡ true
-    → by-order r (fresh room t (x ∷ xs)) (merged x xs (m .sum (x .code) (t .code))) (onto x (placed m o room t xs))
+      → (present o t xs ≡ true → placed m o room t xs ≡ summed xs (place o t xs) d (m .sum (getD xs (place o t xs) d .code) (t .code)))
+      → (r : Ordering) → by-order r false true (present o t xs) ≡ true
+      → by-order r (fresh room t (x ∷ xs)) (merged x xs (m .sum (x .code) (t .code))) (onto x (placed m o room t xs))
       ≡ summed (x ∷ xs) (by-order r 0 0 (suc (place o t xs))) d (m .sum (getD (x ∷ xs) (by-order r 0 0 (suc (place o t xs))) d .code) (t .code))
   here-at d x xs below Less h = absurd (false≢true h)
   here-at d x xs below Equal h = merged-summed x xs d (m .sum (x .code) (t .code))
@@ -86,7 +86,7 @@ module _ (m : Coding) (o : OrderModel) (t : Term) (xs : List Term) (s p : ℕ) (
   offset = omega arith
 
   pub insert-here : (d : Term) (r : Result ℕ RingFault) → true ≡ present o t (drop s xs) → r ≡ m .sum (getD xs p d .code) (t .code)
-    → insert m o s t (drop s xs) ≡ summed (drop s xs) (p - s) d r
+      → insert m o s t (drop s xs) ≡ summed (drop s xs) (p - s) d r
   insert-here d r h e =
       let read : getD (drop s xs) (place o t (drop s xs)) d ≡ getD xs p d = getD-drop s xs (place o t (drop s xs)) d ∙ ap (λ i. getD xs i d) (sym at) in
       ap (λ b. cond b (Ok (drop s xs)) (placed m o s t (drop s xs))) (ne-eqb (t .code) 0 some)

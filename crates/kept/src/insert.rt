@@ -33,7 +33,13 @@ fn find_place<O: MonomialOrder>(order: &O, work: &[Term], start: usize, t: &Term
 }
 
 // Inserts a term, and answers where the list starts then; the places before `start` are free.
-pub fn insert<R: Ring, O: MonomialOrder>(ring: &R, order: &O, work: &mut [Term], start: usize, t: Term) -> Result<usize, KeptFault>
+pub fn insert<R: Ring, O: MonomialOrder>(
+    ring: &R,
+    order: &O,
+    work: &mut [Term],
+    start: usize,
+    t: Term,
+) -> Result<usize, KeptFault>
     requires { ⌜ start ≤ length (now work) ⌝ }
     ensures { λ r. ⌜ Inserted (insertion (R·Ring .model (now (ring .entry))) (O·MonomialOrder .model (now (order .entry))) start t (drop start (now (work .entry)))) start (now (work .entry)) (now (work .exit)) r ⌝ }
 {

@@ -11,4 +11,3 @@ returns c =
       list = put-list xs (c .rotate-left .last .self) (s - 1) s (c .args .p) (c .args .p - (s - 1)) (c .args .t) (omega arith) (omega arith) (omega arith) (omega arith) (c .rotate-left .ensures .after);
       rest = put-rest xs (c .rotate-left .last .self) (s - 1) (c .args .p - (s - 1)) (c .args .t) (omega arith);
     }
-

@@ -31,4 +31,3 @@ returns g c =
     let d = drop-all (c .loop-p .p) (c .args .work .now) (omega arith) in
     let h = rw d at (c .loop-p .inv) in
     record { at = omega arith; here = h .1; within = (omega arith, (omega arith, λ e. absurd (false≢true e))) }
-

@@ -27,10 +27,11 @@ returns-then-c-eq0 g c =
     let xs = c .args .work .now in
     let s = c .args .start in
     let p = c .find-place-p .result .0 in
-    let w = insert-here (g .R·Ring .model (c .args .ring .now)) (g .O·MonomialOrder .model (c .args .order .now)) (c .args .t) xs s p (c .if-t-eq0 .left) (c .find-place-p .ensures .at) null (Ok (c .in-Continue-c .c)) (sym (c .if-here .taken) ∙ c .find-place-p .ensures .here) (c .in-Continue-c .ensures tt) in
-    ( omega arith,
+    let w = insert-here (g .R·Ring .model (c .args .ring .now)) (g .O·MonomialOrder .model (c .args .order .now)) (c .args .t) xs s p (c .if-t-eq0 .left) (c .find-place-p .ensures .at) null (Ok (c .in-Continue-c .c)) (sym (c .if-here .taken) ∙ c .find-place-p .ensures .here) (c .in-Continue-c .ensures tt) in (
+      omega arith,
       ap Ok (c .take-out .ensures .list) ∙ sym (w ∙ summed-zero (drop s xs) (p - s) null (c .in-Continue-c .c) (c .if-c-eq0 .taken)),
-      blanks-more xs (c .take-out .last .work) s (c .take-out .ensures .rest) )
+      blanks-more xs (c .take-out .last .work) s (c .take-out .ensures .rest),
+    )
 
 pub returns-then-here : need.returns-then-here
 returns-then-here g c =
@@ -39,10 +40,11 @@ returns-then-here g c =
     let p = c .find-place-p .result .0 in
     let m = g .R·Ring .model (c .args .ring .now) in
     let o = g .O·MonomialOrder .model (c .args .order .now) in
-    let w = insert-here m o (c .args .t) xs s p (c .if-t-eq0 .left) (c .find-place-p .ensures .at) null (Ok (c .in-Continue-c .c)) (sym (c .if-here .taken) ∙ c .find-place-p .ensures .here) (c .in-Continue-c .ensures tt) in
-    ( simp length-set (omega arith),
+    let w = insert-here m o (c .args .t) xs s p (c .if-t-eq0 .left) (c .find-place-p .ensures .at) null (Ok (c .in-Continue-c .c)) (sym (c .if-here .taken) ∙ c .find-place-p .ensures .here) (c .in-Continue-c .ensures tt) in (
+      simp length-set (omega arith),
       ap Ok (code-set m o (c .args .t) xs s p (c .if-t-eq0 .left) (c .find-place-p .ensures .at) null (c .in-Continue-c .c)) ∙ sym (w ∙ summed-more (drop s xs) (p - s) null (c .in-Continue-c .c) (c .if-c-eq0 .left)),
-      λ h. take-set-le s xs p _ (omega arith) ∙ h )
+      λ h. take-set-le s xs p _ (omega arith) ∙ h,
+    )
 
 pub returns-then-start-eq0 : need.returns-then-start-eq0
 returns-then-start-eq0 g c =
@@ -53,7 +55,8 @@ pub returns : need.returns
 returns g c =
     let xs = c .args .work .now in
     let s = c .args .start in
-    let w = insert-new (g .R·Ring .model (c .args .ring .now)) (g .O·MonomialOrder .model (c .args .order .now)) (c .args .t) xs s (c .find-place-p .result .0) (c .if-t-eq0 .left) (c .find-place-p .ensures .at) (sym (c .if-here .left) ∙ c .find-place-p .ensures .here) in
-    ( omega arith,
+    let w = insert-new (g .R·Ring .model (c .args .ring .now)) (g .O·MonomialOrder .model (c .args .order .now)) (c .args .t) xs s (c .find-place-p .result .0) (c .if-t-eq0 .left) (c .find-place-p .ensures .at) (sym (c .if-here .left) ∙ c .find-place-p .ensures .here) in (
+      omega arith,
       ap Ok (c .put-in .ensures .list) ∙ sym (rw (ne-eqb s 0 (c .if-start-eq0 .left)) at w),
-      blanks-less xs (c .put-in .last .work) s (s - 1) (omega arith) (c .put-in .ensures .rest) )
+      blanks-less xs (c .put-in .last .work) s (s - 1) (omega arith) (c .put-in .ensures .rest),
+    )
