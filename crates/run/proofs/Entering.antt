@@ -3,7 +3,7 @@ use mathlib.Core.Path.{_≡_, refl, ap, sym, _∙_}
 use mathlib.Core.List.{List, [], _∷_, _++_}
 use Prim.Native.Nat.{ℕ, _-_, _≤_}
 use native.Mathlib.Omega.{arith}
-use lib.ListN.{length, drop}
+use lib.ListN.{length, take, drop}
 use Rattle.std.specs.declared.option.Option.{Option}
 use Rattle.std.specs.declared.option.Option.the-variants.{Some}
 use Rattle.std.specs.declared.result.Result.{Result}
@@ -13,6 +13,7 @@ use Rattle.coefficients.specs.Coding.{Coding, Answer}
 use Rattle.orders.specs.Models.{OrderModel}
 use Rattle.words.specs.declared.term.Term.{Term}
 use Rattle.kept.specs.Kept.{insert}
+use Rattle.kept.specs.Terms.{blanks}
 use Rattle.run.specs.declared.fault.Cause.{Cause}
 use Rattle.run.specs.declared.fault.Place.{Place}
 use Rattle.run.specs.declared.fault.RunFault.{RunFault}
@@ -70,3 +71,9 @@ append-ok m o cap es fs xs ys h = ap (λ r. then-do r (load m o cap fs)) h ∙ s
 
 pub append-err : (m : Coding) (o : OrderModel) (cap : ℕ) (es fs : List Entry) (xs : List Term) (f : RunFault) → load m o cap es xs ≡ Err f → load m o cap (es ++ fs) xs ≡ Err f
 append-err m o cap es fs xs f h = load-append m o cap es fs xs ∙ ap (λ r. then-do r (load m o cap fs)) h
+
+-- what is left after more, from what was left before
+pub left-through : {want want′ : Result (List Term) RunFault} (s t : ℕ) (before mid after : List Term) (r : Result ℕ RunFault)
+    → want ≡ want′ → (take s before ≡ blanks s → take t mid ≡ blanks t) → Left want t mid after r → Left want′ s before after r
+left-through s t before mid after (Ok n) e b h = (h .0, h .1 ∙ e, λ q. h .2 (b q))
+left-through s t before mid after (Err f) e b h = sym e ∙ h

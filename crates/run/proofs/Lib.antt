@@ -1,3 +1,5 @@
 pub mod Splice
 pub mod Entering
 pub mod Loading
+pub mod Stepping
+pub mod Running
