@@ -3,3 +3,4 @@ pub mod Entering
 pub mod Loading
 pub mod Stepping
 pub mod Running
+pub mod Calling

@@ -1,4 +1,5 @@
 // The run: terms are loaded into the kept list, and rewritten at leftmost inversions until only standard words are left.
+pub mod calls;
 pub mod engine;
 pub mod entry;
 pub mod fault;

@@ -40,7 +40,7 @@ pub fn load_first<R: Ring, O: MonomialOrder>(
 }
 
 // The second list, as it is.
-pub fn load_second<R: Ring, O: MonomialOrder>(
+fn load_second<R: Ring, O: MonomialOrder>(
     ring: &R,
     order: &O,
     list: &[Term],
@@ -65,7 +65,7 @@ pub fn load_second<R: Ring, O: MonomialOrder>(
 }
 
 // The second list, with negatives.
-pub fn load_negated<R: Ring, O: MonomialOrder>(
+fn load_negated<R: Ring, O: MonomialOrder>(
     ring: &R,
     order: &O,
     list: &[Term],
@@ -88,6 +88,38 @@ pub fn load_negated<R: Ring, O: MonomialOrder>(
         at = add_entry(ring, order, work, at, Some(row), code, place)?;
     }
     Ok(at)
+}
+
+// The first list, then the second.
+pub fn load_sum<R: Ring, O: MonomialOrder>(
+    ring: &R,
+    order: &O,
+    first: &[Term],
+    second: &[Term],
+    work: &mut [Term],
+    start: usize,
+) -> Result<usize, RunFault>
+    requires { ⌜ start ≤ length (now work) ⌝ }
+    ensures { λ r. ⌜ Left (load (R·Ring .model (now (ring .entry))) (O·MonomialOrder .model (now (order .entry))) (length (now (work .entry))) (first-entries 1 (now (first .entry)) ++ second-entries 1 (now (second .entry))) (drop start (now (work .entry)))) start (now (work .entry)) (now (work .exit)) r ⌝ }
+{
+    let at = load_first(ring, order, first, work, start)?;
+    load_second(ring, order, second, work, at)
+}
+
+// The first list, then the second with negatives.
+pub fn load_difference<R: Ring, O: MonomialOrder>(
+    ring: &R,
+    order: &O,
+    first: &[Term],
+    second: &[Term],
+    work: &mut [Term],
+    start: usize,
+) -> Result<usize, RunFault>
+    requires { ⌜ start ≤ length (now work) ⌝ }
+    ensures { λ r. ⌜ Left (load (R·Ring .model (now (ring .entry))) (O·MonomialOrder .model (now (order .entry))) (length (now (work .entry))) (first-entries 1 (now (first .entry)) ++ negated-entries (R·Ring .model (now (ring .entry))) 1 (now (second .entry))) (drop start (now (work .entry)))) start (now (work .entry)) (now (work .exit)) r ⌝ }
+{
+    let at = load_first(ring, order, first, work, start)?;
+    load_negated(ring, order, second, work, at)
 }
 
 // The term t, at place p of the first list, times each of the second list.
