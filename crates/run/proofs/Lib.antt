@@ -1,0 +1,6 @@
+pub mod Splice
+pub mod Entering
+pub mod Loading
+pub mod Stepping
+pub mod Running
+pub mod Calling
