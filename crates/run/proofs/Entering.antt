@@ -38,11 +38,12 @@ left-at place want s before after (Ok n) h = (h .0, ap (at-place place) (h .1), 
 left-at place want s before after (Err f) h = ap (at-place place) h
 
 -- an entry, by its row and its code
-pub entered : (m : Coding) (o : OrderModel) (n cap : ℕ) (e : Entry) (row : Option (List ℕ)) (code : Answer) (xs : List Term)
-    → row ≡ rowed (e .word) → code ≡ e .code → n ≡ cap → at-place (e .place) (added m o n row code xs) ≡ add-entry m o cap e xs
+pub entered : (m : Coding) (o : OrderModel) (n cap : ℕ) (e : Entry) (row : Option (List ℕ)) (code : Answer) (place : Place) (xs : List Term)
+    → row ≡ rowed (e .word) → code ≡ e .code → place ≡ e .place → n ≡ cap → at-place place (added m o n row code xs) ≡ add-entry m o cap e xs
 unfolding add-entry
-entered m o n cap e row code xs er ec en =
-    ap (λ r. at-place (e .place) (added m o n r code xs)) er
+entered m o n cap e row code place xs er ec ep en =
+    ap (λ p. at-place p (added m o n row code xs)) ep
+    ∙ ap (λ r. at-place (e .place) (added m o n r code xs)) er
     ∙ ap (λ a. at-place (e .place) (added m o n (rowed (e .word)) a xs)) ec
     ∙ ap (λ n. at-place (e .place) (added m o n (rowed (e .word)) (e .code) xs)) en
 

@@ -1,5 +1,5 @@
 -- Laws of the loops that load a list.
-use mathlib.Core.Path.{_≡_, refl, ap, sym, _∙_}
+use mathlib.Core.Path.{_≡_, ap, sym, _∙_}
 use mathlib.Core.List.{List, [], _∷_, _++_}
 use Prim.Native.Nat.{ℕ, _+_, _<_, _≤_}
 use lib.ListN.{length, drop, getD}
@@ -12,8 +12,9 @@ use Rattle.orders.specs.Letters.{letters}
 use Rattle.orders.specs.Models.{OrderModel}
 use Rattle.words.specs.declared.term.Term.{Term}
 use Rattle.kept.specs.Terms.{nil-term}
+use Rattle.run.specs.declared.fault.Place.{Place}
 use Rattle.run.specs.declared.fault.RunFault.{RunFault}
-use Rattle.run.specs.Calls.{first-entries, joined-entries, product-entries}
+use Rattle.run.specs.Calls.{joined-entries, product-entries}
 use Rattle.run.specs.Entries.{Entry, added, at-place, add-entry, load}
 use Rattle.run.specs.Faults.{loading, stepping}
 use Rattle.run.specs.Pieces.{around, rowed}
@@ -48,23 +49,25 @@ module _
     (xs : List Term)
     (row : Option (List ℕ))
     (code : Answer)
+    (place : Place)
     (want : Result (List Term) RunFault)
     (h : i < length ts)
     (er : row ≡ rowed (E (i + 1) (getD ts i nil-term) .word))
     (ec : code ≡ E (i + 1) (getD ts i nil-term) .code)
+    (ep : place ≡ E (i + 1) (getD ts i nil-term) .place)
     (en : n ≡ cap)
     (so-far : load m o cap (F (i + 1) (drop i ts)) xs ≡ want)
   where
     split : F (i + 1) (drop i ts) ≡ E (i + 1) (getD ts i nil-term) ∷ F (i + 1 + 1) (drop (i + 1) ts)
     split = ap (F (i + 1)) (drop-more ts i nil-term h) ∙ cons (i + 1) (getD ts i nil-term) (drop (i + 1) ts)
 
-    same : at-place (E (i + 1) (getD ts i nil-term) .place) (added m o n row code xs) ≡ add-entry m o cap (E (i + 1) (getD ts i nil-term)) xs
-    same = entered m o n cap (E (i + 1) (getD ts i nil-term)) row code xs er ec en
+    same : at-place place (added m o n row code xs) ≡ add-entry m o cap (E (i + 1) (getD ts i nil-term)) xs
+    same = entered m o n cap (E (i + 1) (getD ts i nil-term)) row code place xs er ec ep en
 
-    pub each-on : (ys : List Term) → Ok ys ≡ at-place (E (i + 1) (getD ts i nil-term) .place) (added m o n row code xs) → load m o cap (F (i + 1 + 1) (drop (i + 1) ts)) ys ≡ want
+    pub each-on : (ys : List Term) → Ok ys ≡ at-place place (added m o n row code xs) → load m o cap (F (i + 1 + 1) (drop (i + 1) ts)) ys ≡ want
     each-on = load-on m o cap (F (i + 1) (drop i ts)) (F (i + 1 + 1) (drop (i + 1) ts)) (E (i + 1) (getD ts i nil-term)) xs _ want split same so-far
 
-    pub each-stop : (f : RunFault) → at-place (E (i + 1) (getD ts i nil-term) .place) (added m o n row code xs) ≡ Err f → want ≡ Err f
+    pub each-stop : (f : RunFault) → at-place place (added m o n row code xs) ≡ Err f → want ≡ Err f
     each-stop = load-stop m o cap (F (i + 1) (drop i ts)) (F (i + 1 + 1) (drop (i + 1) ts)) (E (i + 1) (getD ts i nil-term)) xs _ want split same so-far
 
 -- where no term is left

@@ -1,16 +1,15 @@
 -- Rows that are written in parts.
 use mathlib.Core.Path.{_≡_, refl, ap, sym, _∙_}
-use mathlib.Core.List.{List, [], _∷_, _++_, append-assoc, append-nil}
-use mathlib.Core.Bool.{Bool, true, false, cond}
+use mathlib.Core.List.{List, [], _∷_, _++_, append-assoc}
+use mathlib.Core.Bool.{true}
 use mathlib.Core.Logic.{⊎-elim}
 use Prim.Native.Nat.{ℕ, zero, suc, _+_, _-_, _<_, _≤_}
 use native.Mathlib.Omega.{arith}
 use native.Mathlib.Nat.{zero-add, sub-zero}
-use lib.Dec.{leb}
 use lib.ListN.{length, take, drop, replicate, set, getD}
 use lib.Seq.{paste}
 use Rattle.std.specs.declared.option.Option.the-variants.{Some, None}
-use Rattle.std.proofs.shelf.Lists.{take-take, drop-replicate, length-append, length-take-le, length-drop, length-replicate}
+use Rattle.std.proofs.shelf.Lists.{take-take, drop-replicate, length-append, length-take-le, length-drop}
 use Rattle.std.proofs.shelf.Edits.{paste-paste, paste-all}
 use Rattle.std.proofs.shelf.Parts.{between-is}
 use Rattle.std.proofs.shelf.Tests.{cases-bool, le-leb, lt-leb}

@@ -1,10 +1,9 @@
 -- Laws of a step.
-use mathlib.Core.Path.{_≡_, refl, ap, sym, _∙_}
+use mathlib.Core.Path.{_≡_, ap, sym, _∙_}
 use mathlib.Core.List.{List, [], _∷_, _++_}
 use Prim.Native.Nat.{ℕ, _+_, _-_, _<_, _≤_}
 use native.Mathlib.Omega.{arith}
-use lib.Dec.{ltb}
-use lib.ListN.{length, take, drop, getD}
+use lib.ListN.{length, drop, getD}
 use Rattle.std.specs.Options.{Cases}
 use Rattle.std.specs.declared.option.Option.{Option}
 use Rattle.std.specs.declared.option.Option.the-variants.{Some, None}
@@ -27,7 +26,7 @@ use Rattle.run.specs.Entries.{Entry, load}
 use Rattle.run.specs.Faults.{stepping, at-step}
 use Rattle.run.specs.Pieces.{around}
 use Rattle.run.specs.Relations.{relation-of, tail-of}
-use Rattle.run.specs.Step.{State, step-of, step-by, finished, worked, entries-at, pair-entries, tail-entries}
+use Rattle.run.specs.Step.{State, step-of, step-by, worked, entries-at, pair-entries, tail-entries}
 
 -- an inversion stands inside its word
 pub within : (w : List ℕ) (r : Option ℕ) → r ≡ leftmost-inversion w → Cases r (Unit {0}) (λ k. k + 2 ≤ length w)

@@ -18,7 +18,7 @@ use orders::order::MonomialOrder;
 use words::term::Term;
 
 // The most steps that a run takes.
-pub fn most_steps() -> u64
+pub(crate) fn most_steps() -> u64
     ensures { λ r. ⌜ r ≡ step-limit ⌝ }
 {
     1_000_000
@@ -42,12 +42,7 @@ fn run_steps<R: Ring, O: MonomialOrder>(
     let mut steps = 0;
     while at < work.len() {
         if steps >= limit {
-            let place = Place {
-                step: steps,
-                a: 0,
-                b: 0,
-                e: 0,
-            };
+            let place = Place::at_step(steps);
             return Err(RunFault {
                 cause: Cause::StepLimit,
                 place,
@@ -62,7 +57,7 @@ fn run_steps<R: Ring, O: MonomialOrder>(
 }
 
 // Blanks a memory.
-pub fn blank_all(memory: &mut [Term])
+pub(crate) fn blank_all(memory: &mut [Term])
     ensures { λ _. ⌜ now (memory .exit) ≡ blanks (length (now (memory .entry))) ⌝ }
 {
     for x in memory.iter_mut() {
@@ -71,7 +66,7 @@ pub fn blank_all(memory: &mut [Term])
 }
 
 // The run of what was loaded; after a refusal both memories are blank.
-pub fn run<R: Ring, O: MonomialOrder>(
+pub(crate) fn run<R: Ring, O: MonomialOrder>(
     ring: &R,
     order: &O,
     table: &Table,

@@ -17,7 +17,7 @@ use orders::order::MonomialOrder;
 use words::term::Term;
 
 // The same, or the fault at its place.
-pub fn placed<T>(r: Result<T, Cause>, place: Place) -> Result<T, RunFault>
+fn placed<T>(r: Result<T, Cause>, place: Place) -> Result<T, RunFault>
     ensures { λ s. ⌜ s ≡ at-place place r ⌝ }
 {
     match r {
@@ -47,7 +47,7 @@ fn added<R: Ring, O: MonomialOrder>(
 }
 
 // The same, with the place of a fault.
-pub fn add_entry<R: Ring, O: MonomialOrder>(
+pub(crate) fn add_entry<R: Ring, O: MonomialOrder>(
     ring: &R,
     order: &O,
     work: &mut [Term],

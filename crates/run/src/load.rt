@@ -1,6 +1,6 @@
 // Loading: the terms of one or two lists into the kept list, one after another.
 ghost use mathlib.Core.List.{_++_};
-ghost use Prim.Native.Nat.{_≤_, _<_};
+ghost use Prim.Native.Nat.{_≤_};
 ghost use lib.ListN.{length, drop};
 ghost use Rattle.run.specs.Calls.{first-entries, second-entries, negated-entries, joined-entries, product-entries};
 ghost use Rattle.run.specs.Entries.{load};
@@ -15,7 +15,7 @@ use orders::order::MonomialOrder;
 use words::term::Term;
 
 // The first list, as it is.
-pub fn load_first<R: Ring, O: MonomialOrder>(
+pub(crate) fn load_first<R: Ring, O: MonomialOrder>(
     ring: &R,
     order: &O,
     list: &[Term],
@@ -28,12 +28,7 @@ pub fn load_first<R: Ring, O: MonomialOrder>(
     let mut at = start;
     for i in 0..list.len() {
         let row = clean_row(&list[i].row);
-        let place = Place {
-            step: 0,
-            a: i as u64 + 1,
-            b: 0,
-            e: 0,
-        };
+        let place = Place::loading(i as u64 + 1, 0);
         at = add_entry(ring, order, work, at, Some(row), Ok(list[i].code), place)?;
     }
     Ok(at)
@@ -53,12 +48,7 @@ fn load_second<R: Ring, O: MonomialOrder>(
     let mut at = start;
     for i in 0..list.len() {
         let row = clean_row(&list[i].row);
-        let place = Place {
-            step: 0,
-            a: 0,
-            b: i as u64 + 1,
-            e: 0,
-        };
+        let place = Place::loading(0, i as u64 + 1);
         at = add_entry(ring, order, work, at, Some(row), Ok(list[i].code), place)?;
     }
     Ok(at)
@@ -79,19 +69,14 @@ fn load_negated<R: Ring, O: MonomialOrder>(
     for i in 0..list.len() {
         let row = clean_row(&list[i].row);
         let code = ring.negative(list[i].code);
-        let place = Place {
-            step: 0,
-            a: 0,
-            b: i as u64 + 1,
-            e: 0,
-        };
+        let place = Place::loading(0, i as u64 + 1);
         at = add_entry(ring, order, work, at, Some(row), code, place)?;
     }
     Ok(at)
 }
 
 // The first list, then the second.
-pub fn load_sum<R: Ring, O: MonomialOrder>(
+pub(crate) fn load_sum<R: Ring, O: MonomialOrder>(
     ring: &R,
     order: &O,
     first: &[Term],
@@ -107,7 +92,7 @@ pub fn load_sum<R: Ring, O: MonomialOrder>(
 }
 
 // The first list, then the second with negatives.
-pub fn load_difference<R: Ring, O: MonomialOrder>(
+pub(crate) fn load_difference<R: Ring, O: MonomialOrder>(
     ring: &R,
     order: &O,
     first: &[Term],
@@ -139,19 +124,14 @@ fn load_joined<R: Ring, O: MonomialOrder>(
     for i in 0..list.len() {
         let row = joined_row(&t.row, &list[i].row);
         let code = ring.product(t.code, list[i].code);
-        let place = Place {
-            step: 0,
-            a: p,
-            b: i as u64 + 1,
-            e: 0,
-        };
+        let place = Place::loading(p, i as u64 + 1);
         at = add_entry(ring, order, work, at, row, code, place)?;
     }
     Ok(at)
 }
 
 // Each term of the first list times each of the second.
-pub fn load_products<R: Ring, O: MonomialOrder>(
+pub(crate) fn load_products<R: Ring, O: MonomialOrder>(
     ring: &R,
     order: &O,
     first: &[Term],

@@ -44,12 +44,7 @@ fn add_tail<R: Ring, O: MonomialOrder>(
     for i in 0..tail.len() {
         let row = substituted_row(&t.row, k, &tail[i].row);
         let code = ring.product(t.code, tail[i].code);
-        let place = Place {
-            step: place.step,
-            a: place.a,
-            b: place.b,
-            e: i as u64 + 1,
-        };
+        let place = Place::stepping(place.step, place.a, place.b, i as u64 + 1);
         at = add_entry(ring, order, work, at, row, code, place)?;
     }
     Ok(at)
@@ -71,14 +66,10 @@ fn rewrite<R: Ring, O: MonomialOrder>(
 {
     let (j, i) = letter_pair(&t.row, k);
     let relation = Relation::of_pair(table, j, i);
-    let place = Place {
-        step: n,
-        a: j as u64,
-        b: i as u64,
-        e: 0,
-    };
+    let place = Place::stepping(n, j as u64, i as u64, 0);
     let row = exchanged_row(&t.row, k, j, i);
-    let code = ring.product(t.code, relation.factor());
+    let factor = relation.factor();
+    let code = ring.product(t.code, factor);
     let at = add_entry(ring, order, work, start, Some(row), code, place)?;
     add_tail(ring, order, relation.tail(), work, at, t, k, place)
 }
@@ -101,7 +92,7 @@ fn append(out: &mut [Term], count: usize, t: Term)
 }
 
 // Step n; the work list goes from `start` to the end of its memory, and the result has `count` terms. Answers both after the step.
-pub fn step<R: Ring, O: MonomialOrder>(
+pub(crate) fn step<R: Ring, O: MonomialOrder>(
     ring: &R,
     order: &O,
     table: &Table,
@@ -118,12 +109,7 @@ pub fn step<R: Ring, O: MonomialOrder>(
     match inversion_of(&t.row) {
         None => {
             if count >= out.len() {
-                let place = Place {
-                    step: n,
-                    a: 0,
-                    b: 0,
-                    e: 0,
-                };
+                let place = Place::at_step(n);
                 return Err(RunFault {
                     cause: Cause::ResultFull,
                     place,

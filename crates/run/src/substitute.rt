@@ -26,7 +26,7 @@ fn write_part(row: &mut Row, at: usize, part: &[u8])
 }
 
 // The row of the word that a row holds.
-pub fn clean_row(row: &Row) -> Row
+pub(crate) fn clean_row(row: &Row) -> Row
     ensures { λ r. ⌜ Some r ≡ rowed (letters (now (row .entry))) ⌝ }
 {
     let n = row_length(row);
@@ -36,7 +36,7 @@ pub fn clean_row(row: &Row) -> Row
 }
 
 // The row of the words of a and b, joined.
-pub fn joined_row(a: &Row, b: &Row) -> Option<Row>
+pub(crate) fn joined_row(a: &Row, b: &Row) -> Option<Row>
     ensures { λ r. ⌜ r ≡ rowed (letters (now (a .entry)) ++ letters (now (b .entry))) ⌝ }
 {
     let n = row_length(a);
@@ -51,7 +51,7 @@ pub fn joined_row(a: &Row, b: &Row) -> Option<Row>
 }
 
 // The row of a word in which another word takes the place of the letters at k and k + 1.
-pub fn substituted_row(row: &Row, k: usize, middle: &Row) -> Option<Row>
+pub(crate) fn substituted_row(row: &Row, k: usize, middle: &Row) -> Option<Row>
     requires { ⌜ k + 2 ≤ length (letters (now row)) ⌝ }
     ensures { λ r. ⌜ r ≡ rowed (around (letters (now (row .entry))) k (letters (now (middle .entry)))) ⌝ }
 {
@@ -68,7 +68,7 @@ pub fn substituted_row(row: &Row, k: usize, middle: &Row) -> Option<Row>
 }
 
 // The letters at k and k + 1.
-pub fn letter_pair(row: &Row, k: usize) -> (u8, u8)
+pub(crate) fn letter_pair(row: &Row, k: usize) -> (u8, u8)
     requires { ⌜ k + 2 ≤ length (letters (now row)) ⌝ }
     ensures left { λ r. ⌜ r .0 ≡ getD (letters (now (row .entry))) k 0 ⌝ ∗ ⌜ 0 < r .0 ⌝ ∗ ⌜ r .0 ≤ 8 ⌝ }
     ensures right { λ r. ⌜ r .1 ≡ getD (letters (now (row .entry))) (k + 1) 0 ⌝ ∗ ⌜ 0 < r .1 ⌝ ∗ ⌜ r .1 ≤ 8 ⌝ }
@@ -77,7 +77,7 @@ pub fn letter_pair(row: &Row, k: usize) -> (u8, u8)
 }
 
 // The row of a word in which the letters at k and k + 1, j and i, are exchanged.
-pub fn exchanged_row(row: &Row, k: usize, j: u8, i: u8) -> Row
+pub(crate) fn exchanged_row(row: &Row, k: usize, j: u8, i: u8) -> Row
     requires { ⌜ k + 2 ≤ length (letters (now row)) ⌝ }
     ensures { λ r. ⌜ Some r ≡ rowed (around (letters (now (row .entry))) k (i ∷ j ∷ [])) ⌝ }
 {

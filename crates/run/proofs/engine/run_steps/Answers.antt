@@ -1,11 +1,12 @@
-use mathlib.Core.Path.{_≡_, refl, sym, ap, _∙_}
-use mathlib.Core.List.{[]}
-use Prim.Native.Nat.{ℕ, suc, _+_, _-_, _≤_, _<_}
+use mathlib.Core.Path.{_≡_, sym, ap, _∙_}
+use Prim.Native.Nat.{ℕ, _+_, _-_}
 use native.Mathlib.Omega.{arith}
 use lib.ListN.{length, drop, take, getD}
+use Rattle.std.specs.declared.result.Result.the-variants.{Err}
 use Rattle.std.proofs.shelf.Results.{err-from-errBy}
 use Rattle.std.proofs.shelf.Lists.{take-all}
 use Rattle.kept.specs.Terms.{nil-term, blanks}
+use Rattle.run.specs.declared.fault.Cause.the-variants.{StepLimit}
 use Rattle.run.specs.Step.{step-of}
 use Rattle.run.proofs.Running.{run-end, run-limit, run-next, run-fault}
 use Rattle.run.proofs.engine.run_steps.Needs as need
@@ -14,6 +15,7 @@ pub returns-then-steps-limit : need.returns-then-steps-limit
 returns-then-steps-limit g c =
     sym (c .loop-at .inv .3)
     ∙ run-limit (g .R·Ring .model (c .args .ring .now)) (g .O·MonomialOrder .model (c .args .order .now)) (c .args .table .now) (length (c .args .work .now)) (length (c .args .out .now)) (c .args .limit - c .loop-at .steps) (c .loop-at .steps) (c .loop-at .work) (take (c .loop-at .count) (c .loop-at .out)) (c .loop-at .at) (c .loop-at-test .taken) (omega arith)
+    ∙ ap (λ p. Err (record { cause = StepLimit; place = p })) (sym (c .at-step-place .ensures))
 
 pub returns-in-Break-s : need.returns-in-Break-s
 returns-in-Break-s g c =

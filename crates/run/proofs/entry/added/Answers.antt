@@ -1,4 +1,4 @@
-use mathlib.Core.Path.{_≡_, ap, sym, _∙_}
+use mathlib.Core.Path.{ap, sym, _∙_}
 use lib.ListN.{length, drop}
 use Rattle.std.proofs.shelf.Results.{err-from-errBy}
 use Rattle.run.specs.Entries.{from-kept}

@@ -1,7 +1,7 @@
-use mathlib.Core.Path.{_≡_, refl}
+use mathlib.Core.Path.{refl}
 use native.Mathlib.Omega.{arith}
 use Prim.Native.Nat.{ℕ, _+_}
-use lib.ListN.{length, drop, getD}
+use lib.ListN.{length, drop}
 use Rattle.std.proofs.shelf.Results.{err-from-errBy}
 use Rattle.orders.specs.Letters.{letters}
 use Rattle.run.specs.Entries.{load}
@@ -18,7 +18,7 @@ returns-in-Break-at g c =
     let want = load m o cap (tail-entries m (c .args .place .step) (c .args .place .a) (c .args .place .b) (letters (c .args .t .now .row)) (c .args .k) (c .args .t .now .code) 1 (c .args .tail .now)) (drop (c .args .start) (c .args .work .now)) in
     let p = err-from-errBy (c .from-residual .result) (c .from-residual .ensures .1) in
     rw (p .1, p .2)
-    (each-stop m o cap (length (c .loop-i .work)) (tail-entries m (c .args .place .step) (c .args .place .a) (c .args .place .b) (letters (c .args .t .now .row)) (c .args .k) (c .args .t .now .code)) (tail-entry m (c .args .place .step) (c .args .place .a) (c .args .place .b) (letters (c .args .t .now .row)) (c .args .k) (c .args .t .now .code)) (λ p t ts. refl) (c .args .tail .now) (c .loop-i .i) xs (c .substituted-row-row .result) (c .product-code .result) want (omega arith) (c .substituted-row-row .ensures) (c .product-code .ensures) (c .loop-i .kept .work) (c .loop-i .inv .1) (c .in-Break-at .field-0 .0) (c .in-Break-at .ensures tt))
+    (each-stop m o cap (length (c .loop-i .work)) (tail-entries m (c .args .place .step) (c .args .place .a) (c .args .place .b) (letters (c .args .t .now .row)) (c .args .k) (c .args .t .now .code)) (tail-entry m (c .args .place .step) (c .args .place .a) (c .args .place .b) (letters (c .args .t .now .row)) (c .args .k) (c .args .t .now .code)) (λ p t ts. refl) (c .args .tail .now) (c .loop-i .i) xs (c .substituted-row-row .result) (c .product-code .result) (c .stepping-place .result) want (omega arith) (c .substituted-row-row .ensures) (c .product-code .ensures) (c .stepping-place .ensures) (c .loop-i .kept .work) (c .loop-i .inv .1) (c .in-Break-at .field-0 .0) (c .in-Break-at .ensures tt))
 
 pub loop-i-again : need.loop-i-again
 loop-i-again g c =
@@ -29,7 +29,7 @@ loop-i-again g c =
     let want = load m o cap (tail-entries m (c .args .place .step) (c .args .place .a) (c .args .place .b) (letters (c .args .t .now .row)) (c .args .k) (c .args .t .now .code) 1 (c .args .tail .now)) (drop (c .args .start) (c .args .work .now)) in
     let h = c .in-Continue-at .ensures tt in (
       h .0,
-      each-on m o cap (length (c .loop-i .work)) (tail-entries m (c .args .place .step) (c .args .place .a) (c .args .place .b) (letters (c .args .t .now .row)) (c .args .k) (c .args .t .now .code)) (tail-entry m (c .args .place .step) (c .args .place .a) (c .args .place .b) (letters (c .args .t .now .row)) (c .args .k) (c .args .t .now .code)) (λ p t ts. refl) (c .args .tail .now) (c .loop-i .i) xs (c .substituted-row-row .result) (c .product-code .result) want (omega arith) (c .substituted-row-row .ensures) (c .product-code .ensures) (c .loop-i .kept .work) (c .loop-i .inv .1) (drop (c .in-Continue-at .at) (c .add-entry .last .work)) (h .1),
+      each-on m o cap (length (c .loop-i .work)) (tail-entries m (c .args .place .step) (c .args .place .a) (c .args .place .b) (letters (c .args .t .now .row)) (c .args .k) (c .args .t .now .code)) (tail-entry m (c .args .place .step) (c .args .place .a) (c .args .place .b) (letters (c .args .t .now .row)) (c .args .k) (c .args .t .now .code)) (λ p t ts. refl) (c .args .tail .now) (c .loop-i .i) xs (c .substituted-row-row .result) (c .product-code .result) (c .stepping-place .result) want (omega arith) (c .substituted-row-row .ensures) (c .product-code .ensures) (c .stepping-place .ensures) (c .loop-i .kept .work) (c .loop-i .inv .1) (drop (c .in-Continue-at .at) (c .add-entry .last .work)) (h .1),
       λ b. h .2 (c .loop-i .inv .2 b),
     )
 

@@ -1,11 +1,12 @@
-use mathlib.Core.Path.{_≡_, refl, sym, ap, _∙_}
-use mathlib.Core.List.{[]}
-use Prim.Native.Nat.{ℕ, _+_, _-_, _≤_, _<_}
+use mathlib.Core.Path.{sym, ap, _∙_}
+use Prim.Native.Nat.{ℕ, _+_}
 use native.Mathlib.Omega.{arith}
-use lib.ListN.{length, drop, take, getD}
+use lib.ListN.{length, drop, take}
+use Rattle.std.specs.declared.result.Result.the-variants.{Err}
 use Rattle.std.proofs.shelf.Results.{err-from-errBy}
 use Rattle.std.proofs.shelf.Lists.{length-take-le}
 use Rattle.kept.proofs.Places.{blanks-more}
+use Rattle.run.specs.declared.fault.Cause.the-variants.{ResultFull}
 use Rattle.run.specs.Step.{step-of, worked}
 use Rattle.run.proofs.Stepping.{step-full, step-done, step-worked, blank-behind, state}
 use Rattle.run.proofs.step.step.Needs as need
@@ -21,6 +22,7 @@ returns-then-count-out g c =
     let n = length-take-le (c .args .count) (c .args .out .now) (c .pre .1) in
     ap (λ x. step-of m o (c .args .table .now) cap out (c .args .n) x xs done) (sym (c .take-first-t .ensures .value))
     ∙ step-full m o (c .args .table .now) cap out (c .args .n) (c .take-first-t .result) xs done (c .in-None .ensures tt .value) (omega arith)
+    ∙ ap (λ p. Err (record { cause = ResultFull; place = p })) (sym (c .at-step-place .ensures))
 
 pub returns-in-Break-at : need.returns-in-Break-at
 returns-in-Break-at g c =
