@@ -32,10 +32,10 @@ added-is m o cap s code row r a xs er ea es =
     ∙ ap (λ a. added m o cap (Some row) a xs) ea
     ∙ ap (λ n. from-kept (insert m o n (record { row = row; code = code }) xs)) es
 
-pub left-at : (place : Place) (want : Result (List Term) Cause) (s : ℕ) (before after : List Term) (r : Result ℕ Cause)
-    → Left want s before after r → Left (at-place place want) s before after (at-place place r)
-left-at place want s before after (Ok n) h = (h .0, ap (at-place place) (h .1), h .2)
-left-at place want s before after (Err f) h = ap (at-place place) h
+pub left-at : (o : OrderModel) (place : Place) (want : Result (List Term) Cause) (s : ℕ) (before after : List Term) (r : Result ℕ Cause)
+    → Left o want s before after r → Left o (at-place place want) s before after (at-place place r)
+left-at o place want s before after (Ok n) h = (h .0, ap (at-place place) (h .1), h .2, h .3)
+left-at o place want s before after (Err f) h = ap (at-place place) h
 
 -- an entry, by its row and its code
 pub entered : (m : Coding) (o : OrderModel) (n cap : ℕ) (e : Entry) (row : Option (List ℕ)) (code : Answer) (place : Place) (xs : List Term)
@@ -74,7 +74,7 @@ pub append-err : (m : Coding) (o : OrderModel) (cap : ℕ) (es fs : List Entry) 
 append-err m o cap es fs xs f h = load-append m o cap es fs xs ∙ ap (λ r. then-do r (load m o cap fs)) h
 
 -- what is left after more, from what was left before
-pub left-through : {want want′ : Result (List Term) RunFault} (s t : ℕ) (before mid after : List Term) (r : Result ℕ RunFault)
-    → want ≡ want′ → (take s before ≡ blanks s → take t mid ≡ blanks t) → Left want t mid after r → Left want′ s before after r
-left-through s t before mid after (Ok n) e b h = (h .0, h .1 ∙ e, λ q. h .2 (b q))
-left-through s t before mid after (Err f) e b h = sym e ∙ h
+pub left-through : {want want′ : Result (List Term) RunFault} (o : OrderModel) (s t : ℕ) (before mid after : List Term) (r : Result ℕ RunFault)
+    → want ≡ want′ → (take s before ≡ blanks s → take t mid ≡ blanks t) → Left o want t mid after r → Left o want′ s before after r
+left-through o s t before mid after (Ok n) e b h = (h .0, h .1 ∙ e, λ q. h .2 (b q), h .3)
+left-through o s t before mid after (Err f) e b h = sym e ∙ h

@@ -1,4 +1,5 @@
 pub mod Splice
+pub mod Falling
 pub mod Entering
 pub mod Loading
 pub mod Stepping

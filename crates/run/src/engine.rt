@@ -4,6 +4,7 @@ ghost use mathlib.Core.List.{[]};
 ghost use Prim.Native.Nat.{_≤_};
 ghost use lib.ListN.{length, drop};
 ghost use Rattle.kept.specs.Terms.{blanks};
+ghost use Rattle.kept.specs.Falling.{Falls};
 ghost use Rattle.run.specs.Calls.{Answered, step-limit};
 ghost use Rattle.run.specs.Entries.{then-do};
 ghost use Rattle.run.specs.Post.{Ran, Ready, listed};
@@ -34,7 +35,7 @@ fn run_steps<R: Ring, O: MonomialOrder>(
     out: &mut [Term],
     limit: u64,
 ) -> Result<(usize, u64), RunFault>
-    requires { ⌜ start ≤ length (now work) ⌝ }
+    requires { ⌜ start ≤ length (now work) ⌝ ∗ ⌜ Falls (O·MonomialOrder .model (now order)) (drop start (now work)) ⌝ }
     ensures { λ r. ⌜ Ran (run-from (R·Ring .model (now (ring .entry))) (O·MonomialOrder .model (now (order .entry))) (now (table .entry)) (length (now (work .entry))) (length (now (out .entry))) limit 0 (drop start (now (work .entry))) []) start (now (work .entry)) (now (out .entry)) (now (work .exit)) (now (out .exit)) r ⌝ }
 {
     let mut at = start;
@@ -74,7 +75,7 @@ pub(crate) fn run<R: Ring, O: MonomialOrder>(
     work: &mut [Term],
     out: &mut [Term],
 ) -> Result<(usize, u64), RunFault>
-    requires { ⌜ Ready loaded (now work) ⌝ ∗ ⌜ now out ≡ blanks (length (now out)) ⌝ }
+    requires { ⌜ Ready (O·MonomialOrder .model (now order)) loaded (now work) ⌝ ∗ ⌜ now out ≡ blanks (length (now out)) ⌝ }
     ensures { λ r. ⌜ Answered (then-do (listed loaded (now (work .entry))) (λ xs. run-from (R·Ring .model (now (ring .entry))) (O·MonomialOrder .model (now (order .entry))) (now (table .entry)) (length (now (work .entry))) (length (now (out .entry))) step-limit 0 xs [])) (now (work .exit)) (now (out .exit)) r ⌝ }
 {
     let answer = match loaded {

@@ -2,6 +2,7 @@
 ghost use mathlib.Core.Path.{_≡_};
 ghost use Prim.Native.Nat.{_≤_};
 ghost use lib.ListN.{length, drop};
+ghost use Rattle.kept.specs.Falling.{Falls};
 ghost use Rattle.run.specs.Entries.{added as addition, at-place};
 ghost use Rattle.run.specs.Post.{Left};
 use crate::fault::Cause;
@@ -35,8 +36,8 @@ fn added<R: Ring, O: MonomialOrder>(
     row: Option<Row>,
     code: Result<u64, RingFault>,
 ) -> Result<usize, Cause>
-    requires { ⌜ start ≤ length (now work) ⌝ }
-    ensures { λ r. ⌜ Left (addition (R·Ring .model (now (ring .entry))) (O·MonomialOrder .model (now (order .entry))) (length (now (work .entry))) row code (drop start (now (work .entry)))) start (now (work .entry)) (now (work .exit)) r ⌝ }
+    requires { ⌜ start ≤ length (now work) ⌝ ∗ ⌜ Falls (O·MonomialOrder .model (now order)) (drop start (now work)) ⌝ }
+    ensures { λ r. ⌜ Left (O·MonomialOrder .model (now (order .entry))) (addition (R·Ring .model (now (ring .entry))) (O·MonomialOrder .model (now (order .entry))) (length (now (work .entry))) row code (drop start (now (work .entry)))) start (now (work .entry)) (now (work .exit)) r ⌝ }
 {
     let Some(row) = row else {
         return Err(Cause::WordTooLong);
@@ -56,8 +57,8 @@ pub(crate) fn add_entry<R: Ring, O: MonomialOrder>(
     code: Result<u64, RingFault>,
     place: Place,
 ) -> Result<usize, RunFault>
-    requires { ⌜ start ≤ length (now work) ⌝ }
-    ensures { λ r. ⌜ Left (at-place place (addition (R·Ring .model (now (ring .entry))) (O·MonomialOrder .model (now (order .entry))) (length (now (work .entry))) row code (drop start (now (work .entry))))) start (now (work .entry)) (now (work .exit)) r ⌝ }
+    requires { ⌜ start ≤ length (now work) ⌝ ∗ ⌜ Falls (O·MonomialOrder .model (now order)) (drop start (now work)) ⌝ }
+    ensures { λ r. ⌜ Left (O·MonomialOrder .model (now (order .entry))) (at-place place (addition (R·Ring .model (now (ring .entry))) (O·MonomialOrder .model (now (order .entry))) (length (now (work .entry))) row code (drop start (now (work .entry))))) start (now (work .entry)) (now (work .exit)) r ⌝ }
 {
     placed(added(ring, order, work, start, row, code), place)
 }

@@ -2,6 +2,7 @@
 ghost use mathlib.Core.List.{_++_};
 ghost use Prim.Native.Nat.{_≤_};
 ghost use lib.ListN.{length, drop};
+ghost use Rattle.kept.specs.Falling.{Falls};
 ghost use Rattle.run.specs.Calls.{first-entries, second-entries, negated-entries, joined-entries, product-entries};
 ghost use Rattle.run.specs.Entries.{load};
 ghost use Rattle.run.specs.Post.{Left};
@@ -22,8 +23,8 @@ pub(crate) fn load_first<R: Ring, O: MonomialOrder>(
     work: &mut [Term],
     start: usize,
 ) -> Result<usize, RunFault>
-    requires { ⌜ start ≤ length (now work) ⌝ }
-    ensures { λ r. ⌜ Left (load (R·Ring .model (now (ring .entry))) (O·MonomialOrder .model (now (order .entry))) (length (now (work .entry))) (first-entries 1 (now (list .entry))) (drop start (now (work .entry)))) start (now (work .entry)) (now (work .exit)) r ⌝ }
+    requires { ⌜ start ≤ length (now work) ⌝ ∗ ⌜ Falls (O·MonomialOrder .model (now order)) (drop start (now work)) ⌝ }
+    ensures { λ r. ⌜ Left (O·MonomialOrder .model (now (order .entry))) (load (R·Ring .model (now (ring .entry))) (O·MonomialOrder .model (now (order .entry))) (length (now (work .entry))) (first-entries 1 (now (list .entry))) (drop start (now (work .entry)))) start (now (work .entry)) (now (work .exit)) r ⌝ }
 {
     let mut at = start;
     for i in 0..list.len() {
@@ -42,8 +43,8 @@ fn load_second<R: Ring, O: MonomialOrder>(
     work: &mut [Term],
     start: usize,
 ) -> Result<usize, RunFault>
-    requires { ⌜ start ≤ length (now work) ⌝ }
-    ensures { λ r. ⌜ Left (load (R·Ring .model (now (ring .entry))) (O·MonomialOrder .model (now (order .entry))) (length (now (work .entry))) (second-entries 1 (now (list .entry))) (drop start (now (work .entry)))) start (now (work .entry)) (now (work .exit)) r ⌝ }
+    requires { ⌜ start ≤ length (now work) ⌝ ∗ ⌜ Falls (O·MonomialOrder .model (now order)) (drop start (now work)) ⌝ }
+    ensures { λ r. ⌜ Left (O·MonomialOrder .model (now (order .entry))) (load (R·Ring .model (now (ring .entry))) (O·MonomialOrder .model (now (order .entry))) (length (now (work .entry))) (second-entries 1 (now (list .entry))) (drop start (now (work .entry)))) start (now (work .entry)) (now (work .exit)) r ⌝ }
 {
     let mut at = start;
     for i in 0..list.len() {
@@ -62,8 +63,8 @@ fn load_negated<R: Ring, O: MonomialOrder>(
     work: &mut [Term],
     start: usize,
 ) -> Result<usize, RunFault>
-    requires { ⌜ start ≤ length (now work) ⌝ }
-    ensures { λ r. ⌜ Left (load (R·Ring .model (now (ring .entry))) (O·MonomialOrder .model (now (order .entry))) (length (now (work .entry))) (negated-entries (R·Ring .model (now (ring .entry))) 1 (now (list .entry))) (drop start (now (work .entry)))) start (now (work .entry)) (now (work .exit)) r ⌝ }
+    requires { ⌜ start ≤ length (now work) ⌝ ∗ ⌜ Falls (O·MonomialOrder .model (now order)) (drop start (now work)) ⌝ }
+    ensures { λ r. ⌜ Left (O·MonomialOrder .model (now (order .entry))) (load (R·Ring .model (now (ring .entry))) (O·MonomialOrder .model (now (order .entry))) (length (now (work .entry))) (negated-entries (R·Ring .model (now (ring .entry))) 1 (now (list .entry))) (drop start (now (work .entry)))) start (now (work .entry)) (now (work .exit)) r ⌝ }
 {
     let mut at = start;
     for i in 0..list.len() {
@@ -84,8 +85,8 @@ pub(crate) fn load_sum<R: Ring, O: MonomialOrder>(
     work: &mut [Term],
     start: usize,
 ) -> Result<usize, RunFault>
-    requires { ⌜ start ≤ length (now work) ⌝ }
-    ensures { λ r. ⌜ Left (load (R·Ring .model (now (ring .entry))) (O·MonomialOrder .model (now (order .entry))) (length (now (work .entry))) (first-entries 1 (now (first .entry)) ++ second-entries 1 (now (second .entry))) (drop start (now (work .entry)))) start (now (work .entry)) (now (work .exit)) r ⌝ }
+    requires { ⌜ start ≤ length (now work) ⌝ ∗ ⌜ Falls (O·MonomialOrder .model (now order)) (drop start (now work)) ⌝ }
+    ensures { λ r. ⌜ Left (O·MonomialOrder .model (now (order .entry))) (load (R·Ring .model (now (ring .entry))) (O·MonomialOrder .model (now (order .entry))) (length (now (work .entry))) (first-entries 1 (now (first .entry)) ++ second-entries 1 (now (second .entry))) (drop start (now (work .entry)))) start (now (work .entry)) (now (work .exit)) r ⌝ }
 {
     let at = load_first(ring, order, first, work, start)?;
     load_second(ring, order, second, work, at)
@@ -100,8 +101,8 @@ pub(crate) fn load_difference<R: Ring, O: MonomialOrder>(
     work: &mut [Term],
     start: usize,
 ) -> Result<usize, RunFault>
-    requires { ⌜ start ≤ length (now work) ⌝ }
-    ensures { λ r. ⌜ Left (load (R·Ring .model (now (ring .entry))) (O·MonomialOrder .model (now (order .entry))) (length (now (work .entry))) (first-entries 1 (now (first .entry)) ++ negated-entries (R·Ring .model (now (ring .entry))) 1 (now (second .entry))) (drop start (now (work .entry)))) start (now (work .entry)) (now (work .exit)) r ⌝ }
+    requires { ⌜ start ≤ length (now work) ⌝ ∗ ⌜ Falls (O·MonomialOrder .model (now order)) (drop start (now work)) ⌝ }
+    ensures { λ r. ⌜ Left (O·MonomialOrder .model (now (order .entry))) (load (R·Ring .model (now (ring .entry))) (O·MonomialOrder .model (now (order .entry))) (length (now (work .entry))) (first-entries 1 (now (first .entry)) ++ negated-entries (R·Ring .model (now (ring .entry))) 1 (now (second .entry))) (drop start (now (work .entry)))) start (now (work .entry)) (now (work .exit)) r ⌝ }
 {
     let at = load_first(ring, order, first, work, start)?;
     load_negated(ring, order, second, work, at)
@@ -117,8 +118,8 @@ fn load_joined<R: Ring, O: MonomialOrder>(
     work: &mut [Term],
     start: usize,
 ) -> Result<usize, RunFault>
-    requires { ⌜ start ≤ length (now work) ⌝ }
-    ensures { λ r. ⌜ Left (load (R·Ring .model (now (ring .entry))) (O·MonomialOrder .model (now (order .entry))) (length (now (work .entry))) (joined-entries (R·Ring .model (now (ring .entry))) p (now (t .entry)) 1 (now (list .entry))) (drop start (now (work .entry)))) start (now (work .entry)) (now (work .exit)) r ⌝ }
+    requires { ⌜ start ≤ length (now work) ⌝ ∗ ⌜ Falls (O·MonomialOrder .model (now order)) (drop start (now work)) ⌝ }
+    ensures { λ r. ⌜ Left (O·MonomialOrder .model (now (order .entry))) (load (R·Ring .model (now (ring .entry))) (O·MonomialOrder .model (now (order .entry))) (length (now (work .entry))) (joined-entries (R·Ring .model (now (ring .entry))) p (now (t .entry)) 1 (now (list .entry))) (drop start (now (work .entry)))) start (now (work .entry)) (now (work .exit)) r ⌝ }
 {
     let mut at = start;
     for i in 0..list.len() {
@@ -139,8 +140,8 @@ pub(crate) fn load_products<R: Ring, O: MonomialOrder>(
     work: &mut [Term],
     start: usize,
 ) -> Result<usize, RunFault>
-    requires { ⌜ start ≤ length (now work) ⌝ }
-    ensures { λ r. ⌜ Left (load (R·Ring .model (now (ring .entry))) (O·MonomialOrder .model (now (order .entry))) (length (now (work .entry))) (product-entries (R·Ring .model (now (ring .entry))) 1 (now (first .entry)) (now (second .entry))) (drop start (now (work .entry)))) start (now (work .entry)) (now (work .exit)) r ⌝ }
+    requires { ⌜ start ≤ length (now work) ⌝ ∗ ⌜ Falls (O·MonomialOrder .model (now order)) (drop start (now work)) ⌝ }
+    ensures { λ r. ⌜ Left (O·MonomialOrder .model (now (order .entry))) (load (R·Ring .model (now (ring .entry))) (O·MonomialOrder .model (now (order .entry))) (length (now (work .entry))) (product-entries (R·Ring .model (now (ring .entry))) 1 (now (first .entry)) (now (second .entry))) (drop start (now (work .entry)))) start (now (work .entry)) (now (work .exit)) r ⌝ }
 {
     let mut at = start;
     for i in 0..first.len() {

@@ -7,6 +7,7 @@ ghost use Rattle.std.specs.Options.{Cases};
 ghost use Rattle.orders.specs.Letters.{letters};
 ghost use Rattle.words.specs.Inversions.{leftmost-inversion};
 ghost use Rattle.kept.specs.Terms.{nil-term};
+ghost use Rattle.kept.specs.Falling.{Falls};
 ghost use Rattle.run.specs.Entries.{load};
 ghost use Rattle.run.specs.Post.{Left, Stepped};
 ghost use Rattle.run.specs.Step.{tail-entries, entries-at, step-of};
@@ -37,8 +38,8 @@ fn add_tail<R: Ring, O: MonomialOrder>(
     k: usize,
     place: Place,
 ) -> Result<usize, RunFault>
-    requires { ⌜ start ≤ length (now work) ⌝ ∗ ⌜ k + 2 ≤ length (letters (now t .row)) ⌝ }
-    ensures { λ r. ⌜ Left (load (R·Ring .model (now (ring .entry))) (O·MonomialOrder .model (now (order .entry))) (length (now (work .entry))) (tail-entries (R·Ring .model (now (ring .entry))) (place .step) (place .a) (place .b) (letters (now (t .entry) .row)) k (now (t .entry) .code) 1 (now (tail .entry))) (drop start (now (work .entry)))) start (now (work .entry)) (now (work .exit)) r ⌝ }
+    requires { ⌜ start ≤ length (now work) ⌝ ∗ ⌜ Falls (O·MonomialOrder .model (now order)) (drop start (now work)) ⌝ ∗ ⌜ k + 2 ≤ length (letters (now t .row)) ⌝ }
+    ensures { λ r. ⌜ Left (O·MonomialOrder .model (now (order .entry))) (load (R·Ring .model (now (ring .entry))) (O·MonomialOrder .model (now (order .entry))) (length (now (work .entry))) (tail-entries (R·Ring .model (now (ring .entry))) (place .step) (place .a) (place .b) (letters (now (t .entry) .row)) k (now (t .entry) .code) 1 (now (tail .entry))) (drop start (now (work .entry)))) start (now (work .entry)) (now (work .exit)) r ⌝ }
 {
     let mut at = start;
     for i in 0..tail.len() {
@@ -61,8 +62,8 @@ fn rewrite<R: Ring, O: MonomialOrder>(
     k: usize,
     n: u64,
 ) -> Result<usize, RunFault>
-    requires { ⌜ start ≤ length (now work) ⌝ ∗ ⌜ k + 2 ≤ length (letters (now t .row)) ⌝ }
-    ensures { λ r. ⌜ Left (load (R·Ring .model (now (ring .entry))) (O·MonomialOrder .model (now (order .entry))) (length (now (work .entry))) (entries-at (R·Ring .model (now (ring .entry))) (now (table .entry)) n (letters (now (t .entry) .row)) k (now (t .entry) .code)) (drop start (now (work .entry)))) start (now (work .entry)) (now (work .exit)) r ⌝ }
+    requires { ⌜ start ≤ length (now work) ⌝ ∗ ⌜ Falls (O·MonomialOrder .model (now order)) (drop start (now work)) ⌝ ∗ ⌜ k + 2 ≤ length (letters (now t .row)) ⌝ }
+    ensures { λ r. ⌜ Left (O·MonomialOrder .model (now (order .entry))) (load (R·Ring .model (now (ring .entry))) (O·MonomialOrder .model (now (order .entry))) (length (now (work .entry))) (entries-at (R·Ring .model (now (ring .entry))) (now (table .entry)) n (letters (now (t .entry) .row)) k (now (t .entry) .code)) (drop start (now (work .entry)))) start (now (work .entry)) (now (work .exit)) r ⌝ }
 {
     let (j, i) = letter_pair(&t.row, k);
     let relation = Relation::of_pair(table, j, i);
@@ -102,8 +103,8 @@ pub(crate) fn step<R: Ring, O: MonomialOrder>(
     count: usize,
     n: u64,
 ) -> Result<(usize, usize), RunFault>
-    requires { ⌜ start < length (now work) ⌝ ∗ ⌜ count ≤ length (now out) ⌝ }
-    ensures { λ r. ⌜ Stepped (step-of (R·Ring .model (now (ring .entry))) (O·MonomialOrder .model (now (order .entry))) (now (table .entry)) (length (now (work .entry))) (length (now (out .entry))) n (getD (now (work .entry)) start nil-term) (drop (start + 1) (now (work .entry))) (take count (now (out .entry)))) start count (now (work .entry)) (now (out .entry)) (now (work .exit)) (now (out .exit)) r ⌝ }
+    requires { ⌜ start < length (now work) ⌝ ∗ ⌜ Falls (O·MonomialOrder .model (now order)) (drop start (now work)) ⌝ ∗ ⌜ count ≤ length (now out) ⌝ }
+    ensures { λ r. ⌜ Stepped (O·MonomialOrder .model (now (order .entry))) (step-of (R·Ring .model (now (ring .entry))) (O·MonomialOrder .model (now (order .entry))) (now (table .entry)) (length (now (work .entry))) (length (now (out .entry))) n (getD (now (work .entry)) start nil-term) (drop (start + 1) (now (work .entry))) (take count (now (out .entry)))) start count (now (work .entry)) (now (out .entry)) (now (work .exit)) (now (out .exit)) r ⌝ }
 {
     let t = take_first(work, start);
     match inversion_of(&t.row) {

@@ -51,6 +51,7 @@ loop-at-again g c =
           ∙ ap (λ n. step-of m o (c .args .table .now) (length (c .args .work .now)) n (steps + 1) x xs done) (c .loop-at .kept .out))
           ∙ c .loop-at .inv .3,
       λ b. h .3 (c .loop-at .inv .4 b),
+      h .4,
     )
 
 pub returns : need.returns

@@ -30,6 +30,7 @@ loop-i-again g c =
       h .0,
       products-on m o cap (length (c .loop-i .work)) (c .loop-i .i) (c .args .first .now) (c .args .second .now) xs want (omega arith) (c .loop-i .kept .work) (c .loop-i .inv .1) (drop (c .in-Continue-at .at) (c .load-joined .last .work)) (h .1),
       λ b. h .2 (c .loop-i .inv .2 b),
+      h .3,
     )
 
 pub returns : need.returns
@@ -39,4 +40,4 @@ returns g c =
     let cap : ℕ = length (c .args .work .now) in
     let xs = drop (c .loop-i .at) (c .loop-i .work) in
     let want = load m o cap (product-entries m 1 (c .args .first .now) (c .args .second .now)) (drop (c .args .start) (c .args .work .now)) in
-    (c .loop-i .inv .0, each-end m o cap (λ p ts. product-entries m p ts (c .args .second .now)) (c .loop-i .i + 1) (c .loop-i .i) (c .args .first .now) xs want refl (c .loop-i-test .left) (c .loop-i .inv .1), c .loop-i .inv .2)
+    (c .loop-i .inv .0, each-end m o cap (λ p ts. product-entries m p ts (c .args .second .now)) (c .loop-i .i + 1) (c .loop-i .i) (c .args .first .now) xs want refl (c .loop-i-test .left) (c .loop-i .inv .1), c .loop-i .inv .2, c .loop-i .inv .3)

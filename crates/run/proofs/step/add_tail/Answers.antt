@@ -31,6 +31,7 @@ loop-i-again g c =
       h .0,
       each-on m o cap (length (c .loop-i .work)) (tail-entries m (c .args .place .step) (c .args .place .a) (c .args .place .b) (letters (c .args .t .now .row)) (c .args .k) (c .args .t .now .code)) (tail-entry m (c .args .place .step) (c .args .place .a) (c .args .place .b) (letters (c .args .t .now .row)) (c .args .k) (c .args .t .now .code)) (λ p t ts. refl) (c .args .tail .now) (c .loop-i .i) xs (c .substituted-row-row .result) (c .product-code .result) (c .stepping-place .result) want (omega arith) (c .substituted-row-row .ensures) (c .product-code .ensures) (c .stepping-place .ensures) (c .loop-i .kept .work) (c .loop-i .inv .1) (drop (c .in-Continue-at .at) (c .add-entry .last .work)) (h .1),
       λ b. h .2 (c .loop-i .inv .2 b),
+      h .3,
     )
 
 pub returns : need.returns
@@ -40,4 +41,4 @@ returns g c =
     let cap : ℕ = length (c .args .work .now) in
     let xs = drop (c .loop-i .at) (c .loop-i .work) in
     let want = load m o cap (tail-entries m (c .args .place .step) (c .args .place .a) (c .args .place .b) (letters (c .args .t .now .row)) (c .args .k) (c .args .t .now .code) 1 (c .args .tail .now)) (drop (c .args .start) (c .args .work .now)) in
-    (c .loop-i .inv .0, each-end m o cap (tail-entries m (c .args .place .step) (c .args .place .a) (c .args .place .b) (letters (c .args .t .now .row)) (c .args .k) (c .args .t .now .code)) (c .loop-i .i + 1) (c .loop-i .i) (c .args .tail .now) xs want refl (c .loop-i-test .left) (c .loop-i .inv .1), c .loop-i .inv .2)
+    (c .loop-i .inv .0, each-end m o cap (tail-entries m (c .args .place .step) (c .args .place .a) (c .args .place .b) (letters (c .args .t .now .row)) (c .args .k) (c .args .t .now .code)) (c .loop-i .i + 1) (c .loop-i .i) (c .args .tail .now) xs want refl (c .loop-i-test .left) (c .loop-i .inv .1), c .loop-i .inv .2, c .loop-i .inv .3)

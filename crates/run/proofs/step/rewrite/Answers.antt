@@ -55,7 +55,7 @@ returns g c =
     let work = c .add-entry .last .work in
     let on = load-on m o cap es (tail-entries m n j i w k a 1 (c .tail .result .now)) e xs _ (load m o cap es xs) split same refl (drop (c .in-Continue-at .at) work) (h .1) in
     let long : length work ≡ cap = omega arith in
-    left-through (c .args .start) (c .in-Continue-at .at) (c .args .work .now) work (c .add-tail .last .work) (c .add-tail .result)
+    left-through o (c .args .start) (c .in-Continue-at .at) (c .args .work .now) work (c .add-tail .last .work) (c .add-tail .result)
     (ap (λ p. load m o (length work) (tail-entries m (p .step) (p .a) (p .b) w k a 1 (c .tail .result .now)) (drop (c .in-Continue-at .at) work)) (c .stepping-place .ensures)
     ∙ ap (λ l. load m o l (tail-entries m n j i w k a 1 (c .tail .result .now)) (drop (c .in-Continue-at .at) work)) long ∙ on)
     (h .2)

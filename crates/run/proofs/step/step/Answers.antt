@@ -1,4 +1,4 @@
-use mathlib.Core.Path.{sym, ap, _∙_}
+use mathlib.Core.Path.{sym, ap, subst, _∙_}
 use Prim.Native.Nat.{ℕ, _+_}
 use native.Mathlib.Omega.{arith}
 use lib.ListN.{length, drop, take}
@@ -9,6 +9,8 @@ use Rattle.kept.proofs.Places.{blanks-more}
 use Rattle.run.specs.declared.fault.Cause.the-variants.{ResultFull}
 use Rattle.run.specs.Step.{step-of, worked}
 use Rattle.run.proofs.Stepping.{step-full, step-done, step-worked, blank-behind, state}
+use Rattle.kept.specs.Falling.{Falls}
+use Rattle.run.proofs.Falling.{falls-rest}
 use Rattle.run.proofs.step.step.Needs as need
 
 pub returns-then-count-out : need.returns-then-count-out
@@ -19,7 +21,7 @@ returns-then-count-out g c =
     let out : ℕ = length (c .args .out .now) in
     let xs = drop (c .args .start + 1) (c .args .work .now) in
     let done = take (c .args .count) (c .args .out .now) in
-    let n = length-take-le (c .args .count) (c .args .out .now) (c .pre .1) in
+    let n = length-take-le (c .args .count) (c .args .out .now) (c .pre .1 .1) in
     ap (λ x. step-of m o (c .args .table .now) cap out (c .args .n) x xs done) (sym (c .take-first-t .ensures .value))
     ∙ step-full m o (c .args .table .now) cap out (c .args .n) (c .take-first-t .result) xs done (c .in-None .ensures tt .value) (omega arith)
     ∙ ap (λ p. Err (record { cause = ResultFull; place = p })) (sym (c .at-step-place .ensures))
@@ -46,7 +48,7 @@ returns-else-count-out g c =
     let out : ℕ = length (c .args .out .now) in
     let xs = drop (c .args .start + 1) (c .args .work .now) in
     let done = take (c .args .count) (c .args .out .now) in
-    let n = length-take-le (c .args .count) (c .args .out .now) (c .pre .1) in (
+    let n = length-take-le (c .args .count) (c .args .out .now) (c .pre .1 .1) in (
       omega arith,
       omega arith,
       state (c .take-first-t .ensures .list) (c .append .ensures .list)
@@ -54,6 +56,7 @@ returns-else-count-out g c =
           (ap (λ x. step-of m o (c .args .table .now) cap out (c .args .n) x xs done) (sym (c .take-first-t .ensures .value))
           ∙ step-done m o (c .args .table .now) cap out (c .args .n) (c .take-first-t .result) xs done (c .in-None .ensures tt .value) (omega arith)),
       λ h. (blanks-more (c .args .work .now) (c .take-first-t .last .work) (c .args .start) (c .take-first-t .ensures .rest) (h .0), blank-behind (c .args .out .now) (c .append .last .out) (c .args .count) (omega arith) (c .append .ensures .rest) (h .1)),
+      subst (Falls o) (sym (c .take-first-t .ensures .list)) (falls-rest o (c .args .work .now) (c .args .start) (c .pre .0) (c .pre .1 .0)),
     )
 
 pub returns-in-Continue-at : need.returns-in-Continue-at
@@ -66,10 +69,16 @@ returns-in-Continue-at g c =
     let done = take (c .args .count) (c .args .out .now) in
     let h = c .in-Continue-at .ensures tt in (
       h .0,
-      c .pre .1,
+      c .pre .1 .1,
       ap (worked done) (h .1)
           ∙ sym
           (ap (λ x. step-of m o (c .args .table .now) cap out (c .args .n) x xs done) (sym (c .take-first-t .ensures .value))
           ∙ step-worked m o (c .args .table .now) cap out (c .args .n) (c .take-first-t .result) xs done (c .in-Some .k) (length (c .take-first-t .last .work)) (drop (c .args .start + 1) (c .take-first-t .last .work)) (c .in-Some .ensures tt .value) (omega arith) (c .take-first-t .ensures .list)),
       λ b. (h .2 (blanks-more (c .args .work .now) (c .take-first-t .last .work) (c .args .start) (c .take-first-t .ensures .rest) (b .0)), b .1),
+      h .3,
     )
+
+pub rewrite-requires : need.rewrite-requires
+rewrite-requires g c κs =
+    let o = g .O·MonomialOrder .model (c .args .order .now) in
+    (omega arith, (subst (Falls o) (sym (c .take-first-t .ensures .list)) (falls-rest o (c .args .work .now) (c .args .start) (c .pre .0) (c .pre .1 .0)), c .in-Some .ensures tt .within))
