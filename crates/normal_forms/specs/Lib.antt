@@ -1,0 +1,4 @@
+pub mod Terms
+pub mod Relations
+pub mod Entries
+pub mod Theorems
