@@ -5,3 +5,6 @@ pub mod Images
 pub mod Inversions
 pub mod Ends
 pub mod Loads
+pub mod Unique
+pub mod Running
+pub mod Calls
