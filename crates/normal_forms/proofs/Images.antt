@@ -2,24 +2,24 @@
 use mathlib.Core.Path.{_≡_, refl, sym, ap, ap₂, _∙_}
 use mathlib.Core.Logic.{_⊎_, inl, inr}
 use mathlib.Core.List.{List, [], _∷_, _++_}
-use mathlib.Core.Bool.{Bool, true, false, cond}
+use mathlib.Core.Bool.{cond}
 use Prim.Native.Nat.{ℕ, zero, suc, _+_, _<_, _≤_}
 use native.Mathlib.Omega.{arith}
-use lib.Dec.{ltb, eqb}
+use lib.Dec.{ltb}
 use lib.ListN.{length}
-use Rattle.std.proofs.shelf.Tests.{lt-ltb, le-ltb}
 use Rattle.std.specs.declared.cmp.Ordering.{Ordering}
 use Rattle.std.specs.declared.cmp.Ordering.the-variants.{Less, Equal, Greater}
 use Rattle.theory.specs.FreeSum.{place}
 use Rattle.theory.specs.Keys as keys
 use Rattle.theory.specs.Keys.{Keys}
 use Rattle.orders.specs.Letters.{count, counts-from, letter-count, image, length-image}
-use Rattle.orders.specs.Orders.{first-difference, numbers, then-by, plus, reversed}
+use Rattle.orders.specs.Orders.{first-difference, then-by, plus, reversed}
 use Rattle.orders.specs.Models.{OrderModel, compare-images}
-use Rattle.orders.proofs.Comparing.{numbers-less}
+use Rattle.orders.proofs.Comparing.{numbers-less, numbers-above}
 use Rattle.orders.proofs.Ending.{images-ordered}
 use Rattle.words.specs.Inversions.{below, inversions}
 use Rattle.words.specs.Compare.{compare-words, compare-ties}
+use Rattle.words.proofs.Rising.{below-one, below-none}
 
 -- IMAGES
 
@@ -104,16 +104,13 @@ below-swap x (y ∷ u) j i v = ap (λ n. cond (ltb y x) 1 0 + n) (below-swap x u
 inversions-swap : (u : List ℕ) (j i : ℕ) (v : List ℕ) → i < j → inversions (place u (i ∷ j ∷ []) v) < inversions (place u (j ∷ i ∷ []) v)
 unfolding place
 inversions-swap [] j i v h =
-    let a : _≡_ {A = ℕ} (cond (ltb j i) 1 0) 0 = ap (λ (b : Bool). cond b 1 0) (le-ltb j i (omega arith)) in
-    let b : _≡_ {A = ℕ} (cond (ltb i j) 1 0) 1 = ap (λ (b : Bool). cond b 1 0) (lt-ltb i j h) in
+    let a = below-none i j v (omega arith) in
+    let b = below-one j i v h in
     omega arith
 inversions-swap (x ∷ u) j i v h =
     let a = below-swap x u j i v in
     let b = inversions-swap u j i v h in
     omega arith
-
-numbers-greater : (x y : ℕ) (r : Ordering) → y < x → numbers x y r ≡ Greater
-numbers-greater x y r h = let k : y ≤ x = omega arith in rw (le-ltb x y k, lt-ltb y x h)
 
 module _ (o : OrderModel) where
   -- the same letters around both change nothing
@@ -130,7 +127,7 @@ module _ (o : OrderModel) where
       let e : compare-images o (image w) (image x) ≡ Equal =
       compare-place u (j ∷ i ∷ []) (i ∷ j ∷ []) v ∙ ap (compare-images o (image (j ∷ i ∷ []))) (image-swap i j) ∙ images-ordered o .total .reflexive (image (j ∷ i ∷ [])) (length-image (j ∷ i ∷ []))
       in
-      ap (λ r. then-by r (compare-ties w x)) e ∙ ap (λ r. then-by r (first-difference w x)) (numbers-greater (inversions w) (inversions x) Equal (inversions-swap u j i v h))
+      ap (λ r. then-by r (compare-ties w x)) e ∙ ap (λ r. then-by r (first-difference w x)) (numbers-above (inversions w) (inversions x) Equal (inversions-swap u j i v h))
 
   pub tail-after : (u : List ℕ) (j i : ℕ) (v t : List ℕ) → compare-images o (image t) (image (i ∷ j ∷ [])) ≡ Less → compare-words o (place u (j ∷ i ∷ []) v) (place u t v) ≡ Greater
   tail-after u j i v t h =

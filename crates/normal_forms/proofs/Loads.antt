@@ -26,11 +26,9 @@ use Rattle.orders.specs.Models.{OrderModel}
 use Rattle.words.specs.Rows.{row-of}
 use Rattle.words.specs.Compare.{compare-words}
 use Rattle.words.specs.declared.term.Term.{Term}
-use Rattle.kept.specs.declared.fault.KeptFault.{KeptFault}
-use Rattle.kept.specs.declared.fault.KeptFault.the-variants.{Full}
 use Rattle.kept.specs.Kept.{Listed, insert, compare-terms, by-order, fresh, merged, onto, placed}
 use Rattle.kept.specs.Falling.{Above, Falls, NoneZero, IsKept}
-use Rattle.kept.proofs.Keeps.{placed-falls}
+use Rattle.kept.proofs.Keeps.{full, onto-ok, placed-falls}
 use Rattle.run.specs.declared.fault.Cause.{Cause}
 use Rattle.run.specs.declared.fault.Place.{Place}
 use Rattle.run.specs.declared.fault.RunFault.{RunFault}
@@ -58,17 +56,6 @@ at-place-ok p (Err e) y h = let z : _≡_ {A = ℕ} 0 1 = cc in absurd (omega ar
 from-kept-ok : (r : Listed) (ys : List Term) → from-kept r ≡ Ok ys → r ≡ Ok ys
 from-kept-ok (Ok xs) ys h = ap Ok (ok-injective xs ys h)
 from-kept-ok (Err e) ys h = let z : _≡_ {A = ℕ} 0 1 = cc in absurd (omega arith)
-
-fresh-ok : (room : ℕ) (t : Term) (xs ys : List Term) → fresh room t xs ≡ Ok ys → ys ≡ t ∷ xs
-fresh-ok room t xs ys h = at (eqb room 0) h
-  where
-    at : (b : Bool) → cond b (Err Full) (Ok (t ∷ xs)) ≡ Ok ys → ys ≡ t ∷ xs
-    at true h = let z : _≡_ {A = ℕ} 0 1 = cc in absurd (omega arith)
-    at false h = cc
-
-onto-ok : (x : Term) (r : Listed) (ys : List Term) → onto x r ≡ Ok ys → (zs : List Term) × (r ≡ Ok zs) × (ys ≡ x ∷ zs)
-onto-ok x (Ok zs) ys h = (zs, refl, cc)
-onto-ok x (Err e) ys h = let z : _≡_ {A = ℕ} 0 1 = cc in absurd (omega arith)
 
 -- the sum in a term's place: it is zero and the term goes, or it is not and stays
 data Merge (x : Term) (xs ys : List Term) (r : Answer) : Type 0 where
@@ -155,12 +142,12 @@ module _ (m : Coding) (o : OrderModel) (n : ℕ) where
     }
 
     placed-adds : (xs ys : List Term) → AreTerms m n xs → NoneZero xs → placed m o room t xs ≡ Ok ys → Placed xs ys
-    placed-adds [] ys a z h = subst (Placed []) (sym (fresh-ok room t [] ys h)) (in-front [] tt tt)
+    placed-adds [] ys a z h = subst (Placed []) (sym (full room t [] ys h)) (in-front [] tt tt)
     placed-adds (x ∷ xs) ys a z h = at (λ zs. placed-adds xs zs (a .1) (z .1)) (compare-terms o x t) refl h
       where
         at : ((zs : List Term) → placed m o room t xs ≡ Ok zs → Placed xs zs) → (r : Ordering) → compare-terms o x t ≡ r
             → by-order r (fresh room t (x ∷ xs)) (merged x xs (m .sum (x .code) (t .code))) (onto x (placed m o room t xs)) ≡ Ok ys → Placed (x ∷ xs) ys
-        at rest Less e h = subst (Placed (x ∷ xs)) (sym (fresh-ok room t (x ∷ xs) ys h)) (in-front (x ∷ xs) a z)
+        at rest Less e h = subst (Placed (x ∷ xs)) (sym (full room t (x ∷ xs) ys h)) (in-front (x ∷ xs) a z)
         at rest Equal e h = merging x xs ys (a .0) (a .1) (z .1) (equal-terms o x t e) (merged-ok x xs ys (m .sum (x .code) (t .code)) h)
         at rest Greater e h =
             let q = onto-ok x (placed m o room t xs) ys h in
