@@ -27,26 +27,26 @@ module _ (m : Coding) (n : ℕ) where
   abbrev meant : Term → FreeTerm (m .ring)
   meant t = record { coef = m .means (t .code); word = letters (t .row) }
 
-  own-means : (a : ℕ) → m .used a ≡ true → (c : ℕ) → _≡_ {A = Answer} (Ok a) (Ok c) → CodeOf m c (m .means a)
+  pub own-means : (a : ℕ) → m .used a ≡ true → (c : ℕ) → _≡_ {A = Answer} (Ok a) (Ok c) → CodeOf m c (m .means a)
   own-means a u c h = let e : c ≡ a = cc in record { in-use = ap (m .used) e ∙ u; is = ap (m .means) e }
 
-  first-stand : (p : ℕ) (ts : List Term) → AreTerms m n ts → StandFor m n (first-entries p ts) (sum-of m ts)
+  pub first-stand : (p : ℕ) (ts : List Term) → AreTerms m n ts → StandFor m n (first-entries p ts) (sum-of m ts)
   unfolding sum-of
   first-stand p [] s = tt
   first-stand p (t ∷ ts) s = (record { word = refl; over = s .0 .word .over; code = own-means (t .code) (s .0 .in-use) }, first-stand (p + 1) ts (s .1))
 
-  second-stand : (p : ℕ) (ts : List Term) → AreTerms m n ts → StandFor m n (second-entries p ts) (sum-of m ts)
+  pub second-stand : (p : ℕ) (ts : List Term) → AreTerms m n ts → StandFor m n (second-entries p ts) (sum-of m ts)
   unfolding sum-of
   second-stand p [] s = tt
   second-stand p (t ∷ ts) s = (record { word = refl; over = s .0 .word .over; code = own-means (t .code) (s .0 .in-use) }, second-stand (p + 1) ts (s .1))
 
-  negated-stand : (p : ℕ) (ts : List Term) → AreTerms m n ts → StandFor m n (negated-entries m p ts) (negate (sum-of m ts))
+  pub negated-stand : (p : ℕ) (ts : List Term) → AreTerms m n ts → StandFor m n (negated-entries m p ts) (negate (sum-of m ts))
   unfolding sum-of negate
   negated-stand p [] s = tt
   negated-stand p (t ∷ ts) s =
       (record { word = refl; over = s .0 .word .over; code = λ c h. negative-means m (t .code) c (s .0 .in-use) h }, negated-stand (p + 1) ts (s .1))
 
-  stand-append : (es ds : List Entry) (f g : FreeSum (m .ring)) → StandFor m n es f → StandFor m n ds g → StandFor m n (es ++ ds) (f ++ g)
+  pub stand-append : (es ds : List Entry) (f g : FreeSum (m .ring)) → StandFor m n es f → StandFor m n ds g → StandFor m n (es ++ ds) (f ++ g)
   stand-append [] ds [] g a b = b
   stand-append [] ds (x ∷ f) g a b = absurd a
   stand-append (e ∷ es) ds [] g a b = absurd a
@@ -64,7 +64,7 @@ module _ (m : Coding) (n : ℕ) where
     joined-stand p t (q + 1) us s (u .1),
   )
 
-  product-stand : (p : ℕ) (ts us : List Term) → AreTerms m n ts → AreTerms m n us → StandFor m n (product-entries m p ts us) (times (sum-of m ts) (sum-of m us))
+  pub product-stand : (p : ℕ) (ts us : List Term) → AreTerms m n ts → AreTerms m n us → StandFor m n (product-entries m p ts us) (times (sum-of m ts) (sum-of m us))
   unfolding sum-of times
   product-stand p [] us s u = tt
   product-stand p (t ∷ ts) us s u =

@@ -21,7 +21,7 @@ use Rattle.normal_forms.specs.Relations.{relations-of, TailTerm, Valid}
 use Rattle.normal_forms.specs.Theorems.{Lawful}
 use Rattle.normal_forms.proofs.Images.{keys-of, key-before}
 
-occurs-sum-of : (m : Coding) (ts : List Term) (t : Word) → Occurs t (sum-of m ts) → (x : Term) × Among x ts × (t ≡ letters (x .row))
+pub occurs-sum-of : (m : Coding) (ts : List Term) (t : Word) → Occurs t (sum-of m ts) → (x : Term) × Among x ts × (t ≡ letters (x .row))
 unfolding sum-of
 occurs-sum-of m [] t o = absurd o
 occurs-sum-of m (x ∷ ts) t (inl e) = (x, inl refl, e)

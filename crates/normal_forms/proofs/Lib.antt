@@ -8,3 +8,5 @@ pub mod Loads
 pub mod Unique
 pub mod Running
 pub mod Calls
+pub mod Letters
+pub mod Consequences

@@ -55,7 +55,7 @@ use Rattle.normal_forms.proofs.Unique.{none-kept, without-first}
 
 -- LISTS
 
-sum-of-append : (m : Coding) (xs ys : List Term) → sum-of m (xs ++ ys) ≡ sum-of m xs ++ sum-of m ys
+pub sum-of-append : (m : Coding) (xs ys : List Term) → sum-of m (xs ++ ys) ≡ sum-of m xs ++ sum-of m ys
 unfolding sum-of
 sum-of-append m [] ys = refl
 sum-of-append m (x ∷ xs) ys = ap (λ f. record { coef = m .means (x .code); word = letters (x .row) } ∷ f) (sum-of-append m xs ys)
@@ -68,7 +68,7 @@ none-zero-append : (xs ys : List Term) → NoneZero xs → NoneZero ys → NoneZ
 none-zero-append [] ys a b = b
 none-zero-append (x ∷ xs) ys a b = (a .0, none-zero-append xs ys (a .1) b)
 
-among-append : {A : Type 0} (z : A) (xs ys : List A) → Among z (xs ++ ys) → Among z xs ⊎ Among z ys
+pub among-append : {A : Type 0} (z : A) (xs ys : List A) → Among z (xs ++ ys) → Among z xs ⊎ Among z ys
 among-append z [] ys a = inr a
 among-append z (x ∷ xs) ys (inl e) = inl (inl e)
 among-append z (x ∷ xs) ys (inr a) = ⊎-elim (λ b. inl (inr b)) (λ b. inr b) (among-append z xs ys a)
@@ -104,7 +104,7 @@ module _ (m : Coding) (o : OrderModel) (n : ℕ) (table : List Relation) (valid 
   abbrev P : Relations R
   P = relations-of m n table
 
-  rhs-is : (j i : ℕ) → Pair n j i → rhs P j i ≡ record { coef = m .means (relation-of table j i .factor); word = i ∷ j ∷ [] } ∷ sum-of m (tail-of (relation-of table j i))
+  pub rhs-is : (j i : ℕ) → Pair n j i → rhs P j i ≡ record { coef = m .means (relation-of table j i .factor); word = i ∷ j ∷ [] } ∷ sum-of m (tail-of (relation-of table j i))
   unfolding relations-of
   rhs-is j i p = rhs-pair (relations-of m n table) j i p
 

@@ -1,12 +1,14 @@
 -- What is proved of insertions, steps and whole calculations, over any ring and any order, whether or not the relations agree.
 use mathlib.Core.Path.{_≡_}
+use mathlib.Core.Logic.{_↔_}
 use mathlib.Core.List.{List, [], _∷_, _++_}
 use mathlib.Core.WellFounded.{WellFounded}
 use Prim.Native.Nat.{ℕ}
 use Rattle.std.specs.declared.result.Result.the-variants.{Ok}
 use Rattle.theory.specs.FreeSum.{FreeSum, _≈_, negate, times}
-use Rattle.theory.specs.Words.{AllStandard}
+use Rattle.theory.specs.Words.{OverSum, AllStandard}
 use Rattle.theory.specs.Relations.{TailsOver}
+use Rattle.theory.specs.Basis.{StandardForm}
 use Rattle.theory.specs.Rewriting.{Below}
 use Rattle.theory.specs.NormalForm.{NF}
 use Rattle.coefficients.specs.Coding.{Coding}
@@ -81,6 +83,11 @@ module _ (m : Coding) (o : OrderModel) (n : ℕ) (table : List Relation) (ends :
     pub multiplied : (p : ℕ) (ts us : List Term) (r : Outcome) → AreTerms m n ts → AreTerms m n us → calculate m o table mem (product-entries m p ts us) ≡ Ok r
         → IsNormalForm (times (sum-of m ts) (sum-of m us)) (r .terms)
 
+  -- lists that make normal forms are equal exactly where these are, and empty exactly where it is zero
+  pub record TellApart : Type 0 where
+    pub equal : (f g : FreeSum (m .ring)) (ts us : List Term) → IsNormalForm f ts → IsNormalForm g us → (ts ≡ us) ↔ (NF (relations-of m n table) ends f ≈ NF (relations-of m n table) ends g)
+    pub empty : (f : FreeSum (m .ring)) (ts : List Term) → IsNormalForm f ts → (ts ≡ []) ↔ (NF (relations-of m n table) ends f ≈ [])
+
 abbrev pub Steps-keep : Coding → OrderModel → Type 0
 Steps-keep m o = (n : ℕ) (table : List Relation) → Valid m o n table → (ends : WellFounded (Below (relations-of m n table)))
     → (cap out k : ℕ) (x : Term) (xs done : List Term) (s : State) → Running m o n (x ∷ xs) done → step-of m o table cap out k x xs done ≡ Ok s
@@ -93,3 +100,13 @@ Answered-runs m o = (n : ℕ) (table : List Relation) → Valid m o n table → 
 
 abbrev pub Answered-calls : Coding → OrderModel → Type 0
 Answered-calls m o = (n : ℕ) (table : List Relation) → Valid m o n table → (ends : WellFounded (Below (relations-of m n table))) → (mem : Memory) → CallsAnswer m o n table ends mem
+
+-- CONSEQUENCES
+
+abbrev pub Terms-tell-apart : Coding → OrderModel → Type 0
+Terms-tell-apart m o = (n : ℕ) (table : List Relation) (ends : WellFounded (Below (relations-of m n table))) → TellApart m o n table ends
+
+-- the terms are a combination of standard words that f is congruent to
+abbrev pub Terms-are-congruent : Coding → OrderModel → Type 0
+Terms-are-congruent m o = (n : ℕ) (table : List Relation) → Valid m o n table → (ends : WellFounded (Below (relations-of m n table)))
+    → (f : FreeSum (m .ring)) (ts : List Term) → OverSum n f → IsNormalForm m o n table ends f ts → StandardForm (relations-of m n table) f (sum-of m ts)

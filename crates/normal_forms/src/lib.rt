@@ -1,7 +1,8 @@
 // What a run computes: the terms of an answered calculation are the normal form of what was loaded, whether or not the relations agree.
 // Each function here has a theorem for its contract, over every ring and every order that have a model, so that the crate is proved only if
 // the theorem is.
-ghost use Rattle.normal_forms.specs.Theorems.{Insertion-adds, Kept-lists-equal, Kept-list-empty, Valid-lawful, Steps-keep, Answered-runs, Answered-calls};
+ghost use Rattle.normal_forms.specs.Theorems.{Insertion-adds, Kept-lists-equal, Kept-list-empty, Valid-lawful, Steps-keep, Answered-runs};
+ghost use Rattle.normal_forms.specs.Theorems.{Answered-calls, Terms-tell-apart, Terms-are-congruent};
 use coefficients::ring::Ring;
 use orders::order::MonomialOrder;
 
@@ -43,4 +44,16 @@ pub fn answered_runs_are_normal_forms<R: Ring, O: MonomialOrder>()
 // So normalise, sum, difference and product answer the normal forms of their lists, of their sum, their difference and their product.
 pub fn answered_calls_are_normal_forms<R: Ring, O: MonomialOrder>()
     ensures { λ _. ⌜ ((k : R) (o : O) → Answered-calls (R·Ring .model k) (O·MonomialOrder .model o)) ⌝ }
+{}
+
+// Consequences.
+
+// The terms of two answered runs are equal exactly where the normal forms are, and there are none exactly where the normal form is zero.
+pub fn terms_tell_normal_forms_apart<R: Ring, O: MonomialOrder>()
+    ensures { λ _. ⌜ ((k : R) (o : O) → Terms-tell-apart (R·Ring .model k) (O·MonomialOrder .model o)) ⌝ }
+{}
+
+// The terms are a combination of standard words that is congruent to what was loaded.
+pub fn terms_are_congruent_to_their_sum<R: Ring, O: MonomialOrder>()
+    ensures { λ _. ⌜ ((k : R) (o : O) → Terms-are-congruent (R·Ring .model k) (O·MonomialOrder .model o)) ⌝ }
 {}
