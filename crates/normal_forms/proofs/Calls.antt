@@ -2,11 +2,9 @@
 use mathlib.Core.Path.{_≡_, refl, ap, _∙_}
 use mathlib.Core.List.{List, [], _∷_, _++_}
 use mathlib.Core.Bool.{true}
-use mathlib.Core.WellFounded.{WellFounded}
 use Prim.Native.Nat.{ℕ, _+_}
 use Rattle.std.specs.declared.result.Result.the-variants.{Ok}
 use Rattle.theory.specs.FreeSum.{FreeSum, Term as FreeTerm, negate, times-term, times}
-use Rattle.theory.specs.Rewriting.{Below}
 use Rattle.theory.proofs.Words.{over-join}
 use Rattle.coefficients.specs.Coding.{Coding, Answer}
 use Rattle.orders.specs.Letters.{letters}
@@ -16,8 +14,8 @@ use Rattle.run.specs.declared.relation.Relation.{Relation}
 use Rattle.run.specs.Entries.{Entry}
 use Rattle.run.specs.Calls.{Memory, first-entries, second-entries, negated-entries, joined-entries, product-entries}
 use Rattle.normal_forms.specs.Terms.{sum-of, IsTerm, AreTerms}
-use Rattle.normal_forms.specs.Relations.{relations-of, Valid}
-use Rattle.normal_forms.specs.Entries.{EntryMeans, StandFor}
+use Rattle.normal_forms.specs.Relations.{Ends, Valid}
+use Rattle.normal_forms.specs.Entries.{StandFor}
 use Rattle.normal_forms.specs.Theorems.{CallsAnswer}
 use Rattle.normal_forms.proofs.Codes.{CodeOf, product-means, negative-means}
 use Rattle.normal_forms.proofs.Running.{calculates}
@@ -71,7 +69,7 @@ module _ (m : Coding) (n : ℕ) where
       stand-append (joined-entries m p t 1 us) (product-entries m (p + 1) ts us) (times-term (meant t) (sum-of m us)) (times (sum-of m ts) (sum-of m us))
       (joined-stand p t 1 us (s .0) u) (product-stand (p + 1) ts us (s .1) u)
 
-module _ (m : Coding) (o : OrderModel) (n : ℕ) (table : List Relation) (valid : Valid m o n table) (ends : WellFounded (Below (relations-of m n table))) where
+module _ (m : Coding) (o : OrderModel) (n : ℕ) (table : List Relation) (valid : Valid m o n table) (ends : Ends m n table) where
   pub calls-answer : (mem : Memory) → CallsAnswer m o n table ends mem
   calls-answer mem = record {
     normalised = λ p ts r s h. calculates m o n table valid ends mem (first-entries p ts) (sum-of m ts) r (first-stand m n p ts s) h;

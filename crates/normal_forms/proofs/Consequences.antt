@@ -1,13 +1,11 @@
 -- Lists that make normal forms: they tell these apart, and are congruent to what they are normal forms of.
 use mathlib.Core.Path.{_≡_, sym, ap, _∙_}
-use mathlib.Core.List.{List, [], _∷_}
-use mathlib.Core.WellFounded.{WellFounded}
+use mathlib.Core.List.{List, []}
 use Prim.Native.Nat.{ℕ}
 use Rattle.theory.specs.FreeSum.{FreeSum, coeff, _≈_}
 use Rattle.theory.specs.Words.{OverSum}
 use Rattle.theory.specs.Relations.{Relations}
 use Rattle.theory.specs.Basis.{StandardForm}
-use Rattle.theory.specs.Rewriting.{Below}
 use Rattle.theory.specs.NormalForm.{NF}
 use Rattle.theory.proofs.Basis.{congruent-NF}
 use Rattle.theory.proofs.Congruence.{congruent-≈, congruent-trans}
@@ -16,13 +14,13 @@ use Rattle.orders.specs.Models.{OrderModel}
 use Rattle.words.specs.declared.term.Term.{Term}
 use Rattle.run.specs.declared.relation.Relation.{Relation}
 use Rattle.normal_forms.specs.Terms.{sum-of}
-use Rattle.normal_forms.specs.Relations.{relations-of, Valid}
+use Rattle.normal_forms.specs.Relations.{relations-of, Ends, Valid}
 use Rattle.normal_forms.specs.Theorems.{IsNormalForm, TellApart}
 use Rattle.normal_forms.proofs.Ends.{tails-over}
 use Rattle.normal_forms.proofs.Letters.{terms-over}
 use Rattle.normal_forms.proofs.Unique.{kept-equal, kept-empty}
 
-module _ (m : Coding) (o : OrderModel) (n : ℕ) (table : List Relation) (ends : WellFounded (Below (relations-of m n table))) where
+module _ (m : Coding) (o : OrderModel) (n : ℕ) (table : List Relation) (ends : Ends m n table) where
   abbrev P : Relations (m .ring)
   P = relations-of m n table
 
@@ -45,7 +43,7 @@ module _ (m : Coding) (o : OrderModel) (n : ℕ) (table : List Relation) (ends :
     empty = λ f ts a. (zero-form f ts a, no-terms f ts a);
   }
 
-module _ (m : Coding) (o : OrderModel) (n : ℕ) (table : List Relation) (valid : Valid m o n table) (ends : WellFounded (Below (relations-of m n table))) where
+module _ (m : Coding) (o : OrderModel) (n : ℕ) (table : List Relation) (valid : Valid m o n table) (ends : Ends m n table) where
   pub terms-congruent : (f : FreeSum (m .ring)) (ts : List Term) → OverSum n f → IsNormalForm m o n table ends f ts → StandardForm (relations-of m n table) f (sum-of m ts)
   unfolding relations-of
   terms-congruent f ts over a =

@@ -2,12 +2,10 @@
 use mathlib.Core.Path.{_≡_, refl, sym, subst}
 use mathlib.Core.Logic.{inl, inr}
 use mathlib.Core.List.{List, [], _∷_}
-use mathlib.Core.WellFounded.{WellFounded}
 use Prim.Native.Nat.{ℕ}
 use Rattle.theory.specs.FreeSum.{Word, Occurs}
 use Rattle.theory.specs.Words.{Over}
-use Rattle.theory.specs.Relations.{Pair, TailsOver}
-use Rattle.theory.specs.Rewriting.{Below}
+use Rattle.theory.specs.Relations.{TailsOver}
 use Rattle.theory.specs.Keys.{Before, TailsFall}
 use Rattle.theory.proofs.Ends.{ends-by-keys}
 use Rattle.coefficients.specs.Coding.{Coding}
@@ -17,8 +15,7 @@ use Rattle.words.specs.declared.term.Term.{Term}
 use Rattle.run.specs.declared.relation.Relation.{Relation}
 use Rattle.run.specs.Relations.{relation-of, tail-of}
 use Rattle.normal_forms.specs.Terms.{Among, sum-of}
-use Rattle.normal_forms.specs.Relations.{relations-of, TailTerm, Valid}
-use Rattle.normal_forms.specs.Theorems.{Lawful}
+use Rattle.normal_forms.specs.Relations.{relations-of, Ends, Valid}
 use Rattle.normal_forms.proofs.Images.{keys-of, key-before}
 
 pub occurs-sum-of : (m : Coding) (ts : List Term) (t : Word) → Occurs t (sum-of m ts) → (x : Term) × Among x ts × (t ≡ letters (x .row))
@@ -43,8 +40,5 @@ module _ (m : Coding) (o : OrderModel) (n : ℕ) (table : List Relation) (valid 
       let x = tail-word j i t h in
       subst (λ w. Before (keys-of o .key w) (keys-of o .key (i ∷ j ∷ []))) (sym (x .2)) (key-before o (letters (x .0 .row)) (i ∷ j ∷ []) (valid .pairs j i p .tail (x .0) (x .1) .before))
 
-  pub rewriting-ends : WellFounded (Below (relations-of m n table))
+  pub rewriting-ends : Ends m n table
   rewriting-ends = ends-by-keys (relations-of m n table) (keys-of o) tails-fall
-
-  pub lawful : Lawful m n table
-  lawful = record { tails-over = tails-over; ends = rewriting-ends }

@@ -1,16 +1,15 @@
 -- The leftmost inversion of a word, as the run finds it and as the theory does.
-use mathlib.Core.Path.{_≡_, refl, sym, ap, ap₂, subst, _∙_}
+use mathlib.Core.Path.{_≡_, refl, ap, ap₂, subst, _∙_}
 use mathlib.Core.List.{List, [], _∷_, _++_}
-use mathlib.Core.Bool.{true, _&&_}
+use mathlib.Core.Bool.{true}
 use Prim.Native.Nat.{ℕ, zero, suc, _+_, _<_}
 use native.Mathlib.Omega.{arith}
 use lib.Dec.{leb}
 use lib.ListN.{length, getD, take, drop}
 use Rattle.std.proofs.shelf.Tests.{and-parts, leb-true}
-use Rattle.std.specs.declared.option.Option.{Option}
 use Rattle.std.specs.declared.option.Option.the-variants.{Some, None}
 use Rattle.theory.specs.FreeSum.{place}
-use Rattle.theory.specs.Words.{Rising, Standard, Inversion, First}
+use Rattle.theory.specs.Words.{Rising, Standard, Inversion}
 use Rattle.words.specs.Inversions.{rises, standard, leftmost-inversion}
 use Rattle.words.proofs.Rising.{standard-words}
 

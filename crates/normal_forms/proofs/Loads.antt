@@ -7,31 +7,27 @@ use native.Mathlib.Omega.{arith}
 use lib.Dec.{eqb, leb}
 use lib.ListN.{length}
 use Rattle.std.proofs.shelf.Tests.{eqb-true, eqb-false, leb-true}
-use Rattle.std.specs.declared.option.Option.{Option}
 use Rattle.std.specs.declared.option.Option.the-variants.{Some, None}
 use Rattle.std.specs.declared.result.Result.{Result}
 use Rattle.std.specs.declared.result.Result.the-variants.{Ok, Err}
 use Rattle.std.specs.declared.cmp.Ordering.{Ordering}
 use Rattle.std.specs.declared.cmp.Ordering.the-variants.{Less, Equal, Greater}
 use Rattle.theory.specs.Ring.{CommutativeRing}
-use Rattle.theory.specs.FreeSum.{Word, FreeSum, Term as FreeTerm, _≈_, eval}
-use Rattle.theory.specs.Words.{Over}
+use Rattle.theory.specs.FreeSum.{Word, FreeSum, Term as FreeTerm, eval}
 use Rattle.theory.proofs.RingLaws as ring
 use Rattle.theory.proofs.Eval.{eval-append}
 use Rattle.theory.proofs.Equality.{≈-of-eval}
 use Rattle.coefficients.specs.Coding.{Coding, Answer}
-use Rattle.coefficients.specs.declared.fault.RingFault.{RingFault}
 use Rattle.orders.specs.Letters.{letters, letter-count, row-length}
 use Rattle.orders.specs.Models.{OrderModel}
 use Rattle.words.specs.Rows.{row-of}
 use Rattle.words.specs.Compare.{compare-words}
 use Rattle.words.specs.declared.term.Term.{Term}
 use Rattle.kept.specs.Kept.{Listed, insert, compare-terms, by-order, fresh, merged, onto, placed}
-use Rattle.kept.specs.Falling.{Above, Falls, NoneZero, IsKept}
+use Rattle.kept.specs.Falling.{Above, NoneZero}
 use Rattle.kept.proofs.Keeps.{full, onto-ok, placed-falls}
 use Rattle.run.specs.declared.fault.Cause.{Cause}
 use Rattle.run.specs.declared.fault.Place.{Place}
-use Rattle.run.specs.declared.fault.RunFault.{RunFault}
 use Rattle.run.specs.Entries.{Entry, then-do, at-place, from-kept, added, add-entry, load}
 use Rattle.normal_forms.specs.Terms.{sum-of, IsTerm, AreTerms, KeptTerms}
 use Rattle.normal_forms.specs.Entries.{EntryMeans, StandFor}

@@ -3,7 +3,6 @@ use mathlib.Core.Path.{_≡_, refl, sym, ap, ap₂, subst, _∙_}
 use mathlib.Core.Logic.{_⊎_, inl, inr, ⊎-elim}
 use mathlib.Core.List.{List, [], _∷_, _++_}
 use mathlib.Core.Bool.{Bool, true, false, cond}
-use mathlib.Core.WellFounded.{WellFounded}
 use Prim.Native.Nat.{ℕ, zero, suc, _+_}
 use native.Mathlib.Omega.{arith}
 use lib.Dec.{ltb}
@@ -14,11 +13,9 @@ use Rattle.std.specs.declared.result.Result.{Result}
 use Rattle.std.specs.declared.result.Result.the-variants.{Ok, Err}
 use Rattle.std.specs.declared.cmp.Ordering.the-variants.{Greater}
 use Rattle.theory.specs.Ring.{CommutativeRing}
-use Rattle.theory.specs.FreeSum.{Word, place, FreeSum, Occurs, _≈_, scale, around, eval}
-use Rattle.theory.specs.Words.{Over, Standard, AllStandard}
+use Rattle.theory.specs.FreeSum.{Word, place, FreeSum, Occurs, scale, around, eval}
+use Rattle.theory.specs.Words.{Over, Standard}
 use Rattle.theory.specs.Relations.{Relations, Pair, rhs}
-use Rattle.theory.specs.Rewriting.{Below}
-use Rattle.theory.specs.NormalForm.{NF}
 use Rattle.theory.proofs.RingLaws as ring
 use Rattle.theory.proofs.Eval.{eval-nil, eval-append, eval-scale, eval-around}
 use Rattle.theory.proofs.NormalForm.{value, value-first, NF-of-values, NF-of-standard}
@@ -32,7 +29,7 @@ use Rattle.words.specs.Compare.{compare-words}
 use Rattle.words.specs.Inversions.{leftmost-inversion}
 use Rattle.words.specs.declared.term.Term.{Term}
 use Rattle.kept.specs.Kept.{compare-terms}
-use Rattle.kept.specs.Falling.{Above, Falls, NoneZero, IsKept}
+use Rattle.kept.specs.Falling.{Above, Falls, NoneZero}
 use Rattle.run.specs.declared.fault.Cause.the-variants.{ResultFull}
 use Rattle.run.specs.declared.fault.RunFault.{RunFault}
 use Rattle.run.specs.declared.relation.Relation.{Relation}
@@ -42,8 +39,8 @@ use Rattle.run.specs.Pieces as pieces
 use Rattle.run.specs.Relations.{relation-of, tail-of}
 use Rattle.run.specs.Step.{tail-entries, entries-at, State, finished, worked, step-by, step-of, Outcome, run-from}
 use Rattle.run.specs.Calls.{Memory, step-limit, calculate}
-use Rattle.normal_forms.specs.Terms.{Among, sum-of, AreTerms, KeptTerms}
-use Rattle.normal_forms.specs.Relations.{relations-of, TailTerm, Valid}
+use Rattle.normal_forms.specs.Terms.{Among, sum-of, AreTerms}
+use Rattle.normal_forms.specs.Relations.{relations-of, Ends, TailTerm, Valid}
 use Rattle.normal_forms.specs.Entries.{EntryMeans, StandFor}
 use Rattle.normal_forms.specs.Theorems.{Running, StepKeeps, IsNormalForm}
 use Rattle.normal_forms.proofs.Codes.{product-means}
@@ -178,12 +175,12 @@ module _ (m : Coding) (o : OrderModel) (n : ℕ) (table : List Relation) (valid 
     entries-under x q = (ap (λ y. compare-words o y (place u (i ∷ j ∷ []) v)) (q ∙ d .split) ∙ exchange-after o u j i v (d .falls), tail-under x q 1 (tail-of rel) tail-terms)
 
     -- and they have the value of w
-    entries-value : (ends : WellFounded (Below P)) (φ : Word → R .carrier) → eval (scale (m .means a) (around u (rhs P j i) v)) (value P ends φ) ≡ R .mul (m .means a) (value P ends φ w)
+    entries-value : (ends : Ends m n table) (φ : Word → R .carrier) → eval (scale (m .means a) (around u (rhs P j i) v)) (value P ends φ) ≡ R .mul (m .means a) (value P ends φ w)
     entries-value ends φ =
         eval-scale (m .means a) (around u (rhs P j i) v) (value P ends φ)
         ∙ ap (R .mul (m .means a)) (eval-around u (rhs P j i) v (value P ends φ) ∙ sym (value-first P ends φ w (inversion-at w k d) (d .first)))
 
-  module _ (ends : WellFounded (Below (relations-of m n table))) where
+  module _ (ends : Ends m n table) where
     -- the value of the normal form of a list
     abbrev list-value : (Word → R .carrier) → List Term → R .carrier
     list-value φ ts = eval (sum-of m ts) (value P ends φ)

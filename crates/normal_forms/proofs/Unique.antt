@@ -14,7 +14,7 @@ use Rattle.words.specs.Rows.{row-of}
 use Rattle.words.specs.declared.term.Term.{Term}
 use Rattle.words.proofs.Filling.{row-of-letters}
 use Rattle.kept.specs.Kept.{compare-terms}
-use Rattle.kept.specs.Falling.{Above, Falls, NoneZero, IsKept}
+use Rattle.kept.specs.Falling.{Above, Falls}
 use Rattle.normal_forms.specs.Terms.{sum-of, HoldsWord, IsTerm, KeptTerms}
 use Rattle.normal_forms.proofs.Order.{equal-terms, flip-terms, greater-other, above-rest}
 

@@ -2,10 +2,12 @@
 use mathlib.Core.Path.{_≡_}
 use mathlib.Core.List.{List, [], _∷_}
 use mathlib.Core.Bool.{true}
+use mathlib.Core.WellFounded.{WellFounded}
 use Prim.Native.Nat.{ℕ, _*_, _≤_}
 use lib.ListN.{length}
 use Rattle.std.specs.declared.cmp.Ordering.the-variants.{Less}
 use Rattle.theory.specs.Relations.{Relations, Pair}
+use Rattle.theory.specs.Rewriting.{Below}
 use Rattle.coefficients.specs.Coding.{Coding}
 use Rattle.orders.specs.Letters.{letters, letter-count, image}
 use Rattle.orders.specs.Models.{OrderModel, compare-images}
@@ -21,6 +23,10 @@ relations-of m n table = record {
   factor = λ j i. m .means (relation-of table j i .factor);
   tail = λ j i. sum-of m (tail-of (relation-of table j i));
 }
+
+-- rewriting of words by these relations ends
+abbrev pub Ends : Coding → ℕ → List Relation → Type 0
+Ends m n table = WellFounded (Below (relations-of m n table))
 
 -- a term that the tail of x_j x_i may have: the image of its word is before that of x_i x_j
 pub record TailTerm (m : Coding) (o : OrderModel) (n j i : ℕ) (t : Term) : Type 0 where

@@ -2,14 +2,12 @@
 use mathlib.Core.Path.{_≡_}
 use mathlib.Core.Logic.{_↔_}
 use mathlib.Core.List.{List, [], _∷_, _++_}
-use mathlib.Core.WellFounded.{WellFounded}
 use Prim.Native.Nat.{ℕ}
 use Rattle.std.specs.declared.result.Result.the-variants.{Ok}
 use Rattle.theory.specs.FreeSum.{FreeSum, _≈_, negate, times}
 use Rattle.theory.specs.Words.{OverSum, AllStandard}
 use Rattle.theory.specs.Relations.{TailsOver}
 use Rattle.theory.specs.Basis.{StandardForm}
-use Rattle.theory.specs.Rewriting.{Below}
 use Rattle.theory.specs.NormalForm.{NF}
 use Rattle.coefficients.specs.Coding.{Coding}
 use Rattle.orders.specs.Models.{OrderModel}
@@ -21,7 +19,7 @@ use Rattle.run.specs.Entries.{Entry}
 use Rattle.run.specs.Step.{State, Outcome, step-of}
 use Rattle.run.specs.Calls.{Memory, calculate, first-entries, second-entries, negated-entries, product-entries}
 use Rattle.normal_forms.specs.Terms.{Among, sum-of, IsTerm, AreTerms, KeptTerms}
-use Rattle.normal_forms.specs.Relations.{relations-of, Valid}
+use Rattle.normal_forms.specs.Relations.{relations-of, Ends, Valid}
 use Rattle.normal_forms.specs.Entries.{StandFor}
 
 -- KEPT LISTS
@@ -38,18 +36,19 @@ Insertion-adds m o = (n room : ℕ) (t : Term) (xs ys : List Term) → IsTerm m 
 abbrev pub Kept-lists-equal : Coding → OrderModel → Type 0
 Kept-lists-equal m o = (n : ℕ) (xs ys : List Term) → KeptTerms m o n xs → KeptTerms m o n ys → sum-of m xs ≈ sum-of m ys → xs ≡ ys
 
+-- so one that makes zero is empty
 abbrev pub Kept-list-empty : Coding → OrderModel → Type 0
 Kept-list-empty m o = (n : ℕ) (xs : List Term) → KeptTerms m o n xs → sum-of m xs ≈ [] → xs ≡ []
 
 -- RELATIONS
 
--- the tails of a valid table are in the letters 1 to n, and rewriting of words by its relations ends
-pub record Lawful (m : Coding) (n : ℕ) (table : List Relation) : Type 0 where
-  pub tails-over : TailsOver (relations-of m n table)
-  pub ends : WellFounded (Below (relations-of m n table))
+-- the tails of a valid table are in the letters 1 to n
+abbrev pub Valid-tails-over : Coding → OrderModel → Type 0
+Valid-tails-over m o = (n : ℕ) (table : List Relation) → Valid m o n table → TailsOver (relations-of m n table)
 
-abbrev pub Valid-lawful : Coding → OrderModel → Type 0
-Valid-lawful m o = (n : ℕ) (table : List Relation) → Valid m o n table → Lawful m n table
+-- rewriting by its relations ends; what follows holds of normal forms whatever the proof that it does
+abbrev pub Valid-ends : Coding → OrderModel → Type 0
+Valid-ends m o = (n : ℕ) (table : List Relation) → Valid m o n table → Ends m n table
 
 -- RUNS
 
@@ -60,53 +59,56 @@ pub record Running (m : Coding) (o : OrderModel) (n : ℕ) (work done : List Ter
   pub standard : AllStandard (sum-of m done)
   pub above : (z : Term) → Among z done → Above o z work
 
-module _ (m : Coding) (o : OrderModel) (n : ℕ) (table : List Relation) (ends : WellFounded (Below (relations-of m n table))) where
+module _ (m : Coding) (o : OrderModel) (n : ℕ) (table : List Relation) (ends : Ends m n table) where
+  abbrev pub form-of : FreeSum (m .ring) → FreeSum (m .ring)
+  form-of f = NF (relations-of m n table) ends f
+
   -- the normal form of result and work together stays
   pub record StepKeeps (x : Term) (xs done : List Term) (s : State) : Type 0 where
     pub running : Running m o n (s .work) (s .done)
-    pub same : NF (relations-of m n table) ends (sum-of m (s .done) ++ sum-of m (s .work)) ≈ NF (relations-of m n table) ends (sum-of m done ++ sum-of m (x ∷ xs))
+    pub same : form-of (sum-of m (s .done) ++ sum-of m (s .work)) ≈ form-of (sum-of m done ++ sum-of m (x ∷ xs))
 
   -- the terms are kept and standard, and make the normal form of f
   pub record IsNormalForm (f : FreeSum (m .ring)) (ts : List Term) : Type 0 where
     pub kept : KeptTerms m o n ts
     pub standard : AllStandard (sum-of m ts)
-    pub normal-form : sum-of m ts ≈ NF (relations-of m n table) ends f
+    pub normal-form : sum-of m ts ≈ form-of f
 
-  -- and so of each calculation
+  -- each calculation answers the normal form of its list, of the sum, the difference or the product of its two
   pub record CallsAnswer (mem : Memory) : Type 0 where
-    pub normalised : (p : ℕ) (ts : List Term) (r : Outcome) → AreTerms m n ts → calculate m o table mem (first-entries p ts) ≡ Ok r
-        → IsNormalForm (sum-of m ts) (r .terms)
-    pub added : (p q : ℕ) (ts us : List Term) (r : Outcome) → AreTerms m n ts → AreTerms m n us → calculate m o table mem (first-entries p ts ++ second-entries q us) ≡ Ok r
-        → IsNormalForm (sum-of m ts ++ sum-of m us) (r .terms)
-    pub subtracted : (p q : ℕ) (ts us : List Term) (r : Outcome) → AreTerms m n ts → AreTerms m n us → calculate m o table mem (first-entries p ts ++ negated-entries m q us) ≡ Ok r
-        → IsNormalForm (sum-of m ts ++ negate (sum-of m us)) (r .terms)
-    pub multiplied : (p : ℕ) (ts us : List Term) (r : Outcome) → AreTerms m n ts → AreTerms m n us → calculate m o table mem (product-entries m p ts us) ≡ Ok r
-        → IsNormalForm (times (sum-of m ts) (sum-of m us)) (r .terms)
+    pub normalised : (p : ℕ) (ts : List Term) (r : Outcome) → AreTerms m n ts
+        → calculate m o table mem (first-entries p ts) ≡ Ok r → IsNormalForm (sum-of m ts) (r .terms)
+    pub added : (p q : ℕ) (ts us : List Term) (r : Outcome) → AreTerms m n ts → AreTerms m n us
+        → calculate m o table mem (first-entries p ts ++ second-entries q us) ≡ Ok r → IsNormalForm (sum-of m ts ++ sum-of m us) (r .terms)
+    pub subtracted : (p q : ℕ) (ts us : List Term) (r : Outcome) → AreTerms m n ts → AreTerms m n us
+        → calculate m o table mem (first-entries p ts ++ negated-entries m q us) ≡ Ok r → IsNormalForm (sum-of m ts ++ negate (sum-of m us)) (r .terms)
+    pub multiplied : (p : ℕ) (ts us : List Term) (r : Outcome) → AreTerms m n ts → AreTerms m n us
+        → calculate m o table mem (product-entries m p ts us) ≡ Ok r → IsNormalForm (times (sum-of m ts) (sum-of m us)) (r .terms)
 
   -- lists that make normal forms are equal exactly where these are, and empty exactly where it is zero
   pub record TellApart : Type 0 where
-    pub equal : (f g : FreeSum (m .ring)) (ts us : List Term) → IsNormalForm f ts → IsNormalForm g us → (ts ≡ us) ↔ (NF (relations-of m n table) ends f ≈ NF (relations-of m n table) ends g)
-    pub empty : (f : FreeSum (m .ring)) (ts : List Term) → IsNormalForm f ts → (ts ≡ []) ↔ (NF (relations-of m n table) ends f ≈ [])
+    pub equal : (f g : FreeSum (m .ring)) (ts us : List Term) → IsNormalForm f ts → IsNormalForm g us → (ts ≡ us) ↔ (form-of f ≈ form-of g)
+    pub empty : (f : FreeSum (m .ring)) (ts : List Term) → IsNormalForm f ts → (ts ≡ []) ↔ (form-of f ≈ [])
 
 abbrev pub Steps-keep : Coding → OrderModel → Type 0
-Steps-keep m o = (n : ℕ) (table : List Relation) → Valid m o n table → (ends : WellFounded (Below (relations-of m n table)))
+Steps-keep m o = (n : ℕ) (table : List Relation) → Valid m o n table → (ends : Ends m n table)
     → (cap out k : ℕ) (x : Term) (xs done : List Term) (s : State) → Running m o n (x ∷ xs) done → step-of m o table cap out k x xs done ≡ Ok s
     → StepKeeps m o n table ends x xs done s
 
 abbrev pub Answered-runs : Coding → OrderModel → Type 0
-Answered-runs m o = (n : ℕ) (table : List Relation) → Valid m o n table → (ends : WellFounded (Below (relations-of m n table)))
+Answered-runs m o = (n : ℕ) (table : List Relation) → Valid m o n table → (ends : Ends m n table)
     → (mem : Memory) (es : List Entry) (f : FreeSum (m .ring)) (r : Outcome) → StandFor m n es f → calculate m o table mem es ≡ Ok r
     → IsNormalForm m o n table ends f (r .terms)
 
 abbrev pub Answered-calls : Coding → OrderModel → Type 0
-Answered-calls m o = (n : ℕ) (table : List Relation) → Valid m o n table → (ends : WellFounded (Below (relations-of m n table))) → (mem : Memory) → CallsAnswer m o n table ends mem
+Answered-calls m o = (n : ℕ) (table : List Relation) → Valid m o n table → (ends : Ends m n table) (mem : Memory) → CallsAnswer m o n table ends mem
 
 -- CONSEQUENCES
 
 abbrev pub Terms-tell-apart : Coding → OrderModel → Type 0
-Terms-tell-apart m o = (n : ℕ) (table : List Relation) (ends : WellFounded (Below (relations-of m n table))) → TellApart m o n table ends
+Terms-tell-apart m o = (n : ℕ) (table : List Relation) (ends : Ends m n table) → TellApart m o n table ends
 
 -- the terms are a combination of standard words that f is congruent to
 abbrev pub Terms-are-congruent : Coding → OrderModel → Type 0
-Terms-are-congruent m o = (n : ℕ) (table : List Relation) → Valid m o n table → (ends : WellFounded (Below (relations-of m n table)))
+Terms-are-congruent m o = (n : ℕ) (table : List Relation) → Valid m o n table → (ends : Ends m n table)
     → (f : FreeSum (m .ring)) (ts : List Term) → OverSum n f → IsNormalForm m o n table ends f ts → StandardForm (relations-of m n table) f (sum-of m ts)

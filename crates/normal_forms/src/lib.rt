@@ -1,7 +1,7 @@
 // What a run computes: the terms of an answered calculation are the normal form of what was loaded, whether or not the relations agree.
 // Each function here has a theorem for its contract, over every ring and every order that have a model, so that the crate is proved only if
 // the theorem is.
-ghost use Rattle.normal_forms.specs.Theorems.{Insertion-adds, Kept-lists-equal, Kept-list-empty, Valid-lawful, Steps-keep, Answered-runs};
+ghost use Rattle.normal_forms.specs.Theorems.{Insertion-adds, Kept-lists-equal, Kept-list-empty, Valid-tails-over, Valid-ends, Steps-keep, Answered-runs};
 ghost use Rattle.normal_forms.specs.Theorems.{Answered-calls, Terms-tell-apart, Terms-are-congruent};
 use coefficients::ring::Ring;
 use orders::order::MonomialOrder;
@@ -26,7 +26,8 @@ pub fn kept_lists_with_sum_zero_are_empty<R: Ring, O: MonomialOrder>()
 
 // The tails of a valid table are in its letters, and rewriting of words ends.
 pub fn rewriting_by_valid_relations_ends<R: Ring, O: MonomialOrder>()
-    ensures { λ _. ⌜ ((k : R) (o : O) → Valid-lawful (R·Ring .model k) (O·MonomialOrder .model o)) ⌝ }
+    ensures tails { λ _. ⌜ ((k : R) (o : O) → Valid-tails-over (R·Ring .model k) (O·MonomialOrder .model o)) ⌝ }
+    ensures ends { λ _. ⌜ ((k : R) (o : O) → Valid-ends (R·Ring .model k) (O·MonomialOrder .model o)) ⌝ }
 {}
 
 // Runs.
