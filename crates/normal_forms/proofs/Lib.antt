@@ -10,3 +10,4 @@ pub mod Running
 pub mod Calls
 pub mod Letters
 pub mod Consequences
+pub mod Weyl

@@ -3,6 +3,7 @@
 // the theorem is.
 ghost use Rattle.normal_forms.specs.Theorems.{Insertion-adds, Kept-lists-equal, Kept-list-empty, Valid-tails-over, Valid-ends, Steps-keep, Answered-runs};
 ghost use Rattle.normal_forms.specs.Theorems.{Answered-calls, Terms-tell-apart, Terms-are-congruent};
+ghost use Rattle.normal_forms.specs.Examples.{WeylTable};
 use coefficients::ring::Ring;
 use orders::order::MonomialOrder;
 
@@ -57,4 +58,11 @@ pub fn terms_tell_normal_forms_apart<R: Ring, O: MonomialOrder>()
 // The terms are a combination of standard words that is congruent to what was loaded.
 pub fn terms_are_congruent_to_their_sum<R: Ring, O: MonomialOrder>()
     ensures { λ _. ⌜ ((k : R) (o : O) → Terms-are-congruent (R·Ring .model k) (O·MonomialOrder .model o)) ⌝ }
+{}
+
+// An example.
+
+// The table of the first Weyl algebra is valid over every ring and under every order.
+pub fn weyl_table_is_valid<R: Ring, O: MonomialOrder>()
+    ensures { λ _. ⌜ ((k : R) (o : O) → WeylTable (R·Ring .model k) (O·MonomialOrder .model o)) ⌝ }
 {}
