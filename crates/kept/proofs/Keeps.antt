@@ -20,14 +20,14 @@ use Rattle.kept.specs.Kept.{Listed, compare-terms, by-order, fresh, merged, on
 use Rattle.kept.specs.Falling.{Above, Falls, NoneZero, IsKept}
 use Rattle.kept.proofs.Ordered.{greater-of-less, greater-trans}
 
-full : (room : ℕ) (t : Term) (xs ys : List Term) → fresh room t xs ≡ Ok ys → ys ≡ t ∷ xs
+pub full : (room : ℕ) (t : Term) (xs ys : List Term) → fresh room t xs ≡ Ok ys → ys ≡ t ∷ xs
 full room t xs ys h = at (eqb room 0) h
   where
     at : (b : Bool) → cond b (Err Full) (Ok (t ∷ xs)) ≡ Ok ys → ys ≡ t ∷ xs
     at true h = let z : _≡_ {A = ℕ} 0 1 = cc in absurd (omega arith)
     at false h = cc
 
-onto-ok : (x : Term) (r : Result (List Term) KeptFault) (ys : List Term) → onto x r ≡ Ok ys → (zs : List Term) × (r ≡ Ok zs) × (ys ≡ x ∷ zs)
+pub onto-ok : (x : Term) (r : Result (List Term) KeptFault) (ys : List Term) → onto x r ≡ Ok ys → (zs : List Term) × (r ≡ Ok zs) × (ys ≡ x ∷ zs)
 onto-ok x (Ok zs) ys h = (zs, refl, cc)
 onto-ok x (Err e) ys h = let z : _≡_ {A = ℕ} 0 1 = cc in absurd (omega arith)
 

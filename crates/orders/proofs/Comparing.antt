@@ -16,7 +16,7 @@ use Rattle.orders.specs.Orders.{first-difference, numbers, then-by, reversed, 
 numbers-below : (x y : ℕ) (r : Ordering) → x < y → numbers x y r ≡ Less
 numbers-below x y r h = rw (lt-ltb x y h)
 
-numbers-above : (x y : ℕ) (r : Ordering) → y < x → numbers x y r ≡ Greater
+pub numbers-above : (x y : ℕ) (r : Ordering) → y < x → numbers x y r ≡ Greater
 numbers-above x y r h = let k : y ≤ x = omega arith in rw (le-ltb x y k, lt-ltb y x h)
 
 numbers-same : (x y : ℕ) (r : Ordering) → x ≡ y → numbers x y r ≡ r

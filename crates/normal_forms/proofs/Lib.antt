@@ -1,0 +1,13 @@
+pub mod Codes
+pub mod Rows
+pub mod Order
+pub mod Images
+pub mod Inversions
+pub mod Ends
+pub mod Loads
+pub mod Unique
+pub mod Running
+pub mod Calls
+pub mod Letters
+pub mod Consequences
+pub mod Weyl

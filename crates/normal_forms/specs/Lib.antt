@@ -1,0 +1,5 @@
+pub mod Terms
+pub mod Relations
+pub mod Entries
+pub mod Theorems
+pub mod Examples
