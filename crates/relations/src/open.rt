@@ -15,3 +15,5 @@ pub struct Open<R, O> {
     order: O,
     presentation: Presentation,
 }
+
+mod methods;
