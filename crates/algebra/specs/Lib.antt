@@ -1,0 +1,4 @@
+pub mod Faults
+pub mod Overlaps
+pub mod Calls
+pub mod Decide

@@ -1,0 +1,4 @@
+pub mod Counts
+pub mod Faults
+pub mod Declare
+pub mod Presentations

@@ -1,0 +1,30 @@
+-- What opening an algebra and declaring a relation leave of its presentation.
+use mathlib.Core.Path.{_≡_}
+use mathlib.Core.List.{List, []}
+use mathlib.Core.Bool.{Bool, true, false}
+use Prim.Native.Nat.{ℕ}
+use lib.ListN.{set, replicate}
+use Rattle.coefficients.specs.Coding.{Coding}
+use Rattle.words.specs.declared.term.Term.{Term}
+use Rattle.run.specs.declared.relation.Relation.{Relation}
+use Rattle.run.specs.Relations.{pair-place, tail-of}
+use Rattle.relations.specs.declared.open.Presentation.{Presentation}
+
+-- x_j x_i = c x_i x_j + tail
+pub record Says (r : Relation) (c : ℕ) (ts : List Term) : Type 0 where
+  pub factor : r .factor ≡ c
+  pub tail : tail-of r ≡ ts
+
+-- no pair is declared: each has the factor one and no tail
+pub record Opened (m : Coding) (table : List Relation) (declared : List Bool) : Type 0 where
+  pub relation : Relation
+  pub says : Says relation (m .one) []
+  pub table-is : table ≡ replicate 64 relation
+  pub none-declared : declared ≡ replicate 64 false
+
+-- the pair j, i has this relation now and counts as declared; all else is as it was
+pub record Declares (j i c : ℕ) (tail : List Term) (table : List Relation) (declared : List Bool) (table′ : List Relation) (declared′ : List Bool) : Type 0 where
+  pub relation : Relation
+  pub says : Says relation c tail
+  pub table-is : table′ ≡ set table (pair-place j i) relation
+  pub declared-is : declared′ ≡ set declared (pair-place j i) true
