@@ -1,3 +1,5 @@
 pub mod Keeps
 pub mod Memory
+pub mod Ordered
 pub mod Places
+pub mod Searching

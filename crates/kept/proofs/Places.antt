@@ -7,7 +7,9 @@ use native.Mathlib.Omega.{arith}
 use lib.ListN.{length, take, drop, getD, set}
 use Rattle.std.proofs.shelf.Lists.{drop-more, getD-drop, drop-set-add, replicate-more, take-take, take-replicate}
 use Rattle.std.specs.declared.cmp.Ordering.{Ordering}
+use Rattle.orders.specs.Letters.{letters}
 use Rattle.orders.specs.Models.{OrderModel}
+use Rattle.words.specs.Compare.{compare-words}
 use Rattle.words.specs.declared.term.Term.{Term}
 use Rattle.kept.specs.Kept.{place, present, compare-terms, by-order, placed, fresh, merged, onto, insert}
 use Rattle.kept.specs.Terms.{blanks}
@@ -23,9 +25,16 @@ use Rattle.coefficients.specs.Coding.{Coding}
 use Rattle.coefficients.specs.declared.fault.RingFault.{RingFault}
 use lib.Dec.{eqb}
 
-pub place-more : (o : OrderModel) (t : Term) (xs : List Term) (p : ℕ) (d : Term) (r : Ordering) → p < length xs → r ≡ compare-terms o (getD xs p d) t
-    → (place o t (drop p xs) ≡ by-order r 0 0 (suc (place o t (drop (p + 1) xs)))) × (present o t (drop p xs) ≡ by-order r false true (present o t (drop (p + 1) xs)))
-place-more o t xs p d r h e = (rw (drop-more xs p d h, ← e), rw (drop-more xs p d h, ← e))
+-- a term's place depends on its row alone
+pub same-place : (o : OrderModel) (s t : Term) (xs : List Term) → s .row ≡ t .row → (place o s xs ≡ place o t xs) × (present o s xs ≡ present o t xs)
+unfolding compare-terms
+same-place o s t [] e = (refl, refl)
+same-place o s t (x ∷ xs) e =
+    let h = same-place o s t xs e in
+    let c : compare-terms o x s ≡ compare-terms o x t = ap (λ r. compare-words o (letters (x .row)) (letters r)) e in (
+      ap (λ r. by-order r 0 0 (suc (place o s xs))) c ∙ ap (λ n. by-order (compare-terms o x t) 0 0 (suc n)) (h .0),
+      ap (λ r. by-order r false true (present o s xs)) c ∙ ap (by-order (compare-terms o x t) false true) (h .1),
+    )
 
 onto-full : (x : Term) (l : List Term) (b : Bool) → onto x (cond b (Err Full) (Ok l)) ≡ cond b (Err Full) (Ok (x ∷ l))
 onto-full x l true = refl

@@ -3,3 +3,4 @@ pub mod Terms
 pub mod Kept
 pub mod Falling
 pub mod Post
+pub mod Search

@@ -1,36 +1,19 @@
-// Insertion into the list that goes from `start` to the end of its memory.
+// Insertion into the list that goes from `start` to the end of its memory, its words falling.
 ghost use mathlib.Core.Path.{_≡_};
-ghost use mathlib.Core.Bool.{true};
-ghost use Prim.Native.Nat.{_+_, _≤_, _<_};
+ghost use Prim.Native.Nat.{_≤_};
 ghost use lib.ListN.{length, drop};
-ghost use Rattle.kept.specs.Kept.{place, present, insert as insertion};
+ghost use Rattle.kept.specs.Falling.{Falls};
+ghost use Rattle.kept.specs.Kept.{insert as insertion};
 ghost use Rattle.kept.specs.Post.{Inserted};
 use crate::edits::put_in;
 use crate::edits::take_out;
 use crate::fault::KeptFault;
 use crate::fault::KeptFaultFromRing;
+use crate::search::find_place;
 use coefficients::ring::Ring;
 use orders::order::MonomialOrder;
-use std::cmp::Ordering;
-use words::row::compare_rows;
+use words::measured::Measured;
 use words::term::Term;
-
-// Where a term belongs, and whether its word is there.
-fn find_place<O: MonomialOrder>(order: &O, work: &[Term], start: usize, t: &Term) -> (usize, bool)
-    requires { ⌜ start ≤ length (now work) ⌝ }
-    ensures at { λ r. ⌜ r .0 ≡ start + place (model (now (order .entry))) (now (t .entry)) (drop start (now (work .entry))) ⌝ }
-    ensures here { λ r. ⌜ r .1 ≡ present (model (now (order .entry))) (now (t .entry)) (drop start (now (work .entry))) ⌝ }
-    ensures within { λ r. ⌜ start ≤ r .0 ⌝ ∗ ⌜ r .0 ≤ length (now (work .entry)) ⌝ ∗ ⌜ (r .1 ≡ true → r .0 < length (now (work .entry))) ⌝ }
-{
-    for p in start..work.len() {
-        match compare_rows(order, &work[p].row, &t.row) {
-            Ordering::Greater => {}
-            Ordering::Equal => return (p, true),
-            Ordering::Less => return (p, false),
-        }
-    }
-    (work.len(), false)
-}
 
 // Inserts a term, and answers where the list starts then; the places before `start` are free.
 pub fn insert<R: Ring, O: MonomialOrder>(
@@ -40,13 +23,13 @@ pub fn insert<R: Ring, O: MonomialOrder>(
     start: usize,
     t: Term,
 ) -> Result<usize, KeptFault>
-    requires { ⌜ start ≤ length (now work) ⌝ }
+    requires { ⌜ start ≤ length (now work) ⌝ ∗ ⌜ Falls (O·MonomialOrder .model (now order)) (drop start (now work)) ⌝ }
     ensures { λ r. ⌜ Inserted (insertion (R·Ring .model (now (ring .entry))) (O·MonomialOrder .model (now (order .entry))) start t (drop start (now (work .entry)))) start (now (work .entry)) (now (work .exit)) r ⌝ }
 {
     if t.code == 0 {
         return Ok(start);
     }
-    let (p, here) = find_place(order, work, start, &t);
+    let (p, here) = find_place(order, work, start, &Measured::new(t.row));
     if here {
         let c = ring.sum(work[p].code, t.code)?;
         if c == 0 {

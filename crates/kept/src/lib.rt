@@ -2,3 +2,4 @@
 pub mod edits;
 pub mod fault;
 pub mod insert;
+pub mod search;

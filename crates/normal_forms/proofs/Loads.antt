@@ -34,7 +34,7 @@ use Rattle.normal_forms.specs.Entries.{EntryMeans, StandFor}
 use Rattle.normal_forms.specs.Theorems.{Added}
 use Rattle.normal_forms.proofs.Codes.{sum-means}
 use Rattle.normal_forms.proofs.Rows.{letters-row, row-holds}
-use Rattle.normal_forms.proofs.Order.{flip-terms, trans-terms, equal-terms}
+use Rattle.normal_forms.proofs.Order.{equal-terms}
 
 -- ANSWERS
 
@@ -165,7 +165,7 @@ module _ (m : Coding) (o : OrderModel) (n : ℕ) where
           })
       at false e h =
           let p = placed-adds room t term (eqb-false (t .code) 0 e) xs ys (k .terms) (k .kept .none-zero) h in
-          let f = placed-falls m o room t (flip-terms o) (trans-terms o) xs ys (k .kept .falls) h in
+          let f = placed-falls m o room t xs ys (k .kept .falls) h in
           record { kept = record { terms = p .terms; kept = record { falls = f .0; none-zero = p .none-zero } }; adds = p .adds; above = f .1 }
 
   pub insertion-adds : (room : ℕ) (t : Term) (xs ys : List Term) → IsTerm m n t → KeptTerms m o n xs → insert m o room t xs ≡ Ok ys → Added m o n t xs ys

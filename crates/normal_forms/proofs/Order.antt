@@ -12,9 +12,10 @@ use Rattle.words.specs.declared.term.Term.{Term}
 use Rattle.words.proofs.Ranking.{words-ordered}
 use Rattle.kept.specs.Kept.{compare-terms}
 use Rattle.kept.specs.Falling.{Above}
+use Rattle.kept.proofs.Ordered.{greater-trans}
 
 module _ (o : OrderModel) where
-  pub flip-words : (u v : List ℕ) → compare-words o u v ≡ Less → compare-words o v u ≡ Greater
+  flip-words : (u v : List ℕ) → compare-words o u v ≡ Less → compare-words o v u ≡ Greater
   flip-words u v h = words-ordered o .converse u v tt tt ∙ ap reversed h
 
   flip-greater : (u v : List ℕ) → compare-words o u v ≡ Greater → compare-words o v u ≡ Less
@@ -31,14 +32,6 @@ module _ (o : OrderModel) where
   unfolding compare-terms
   equal-terms x y h = words-ordered o .antisymmetric (letters (x .row)) (letters (y .row)) tt tt h
 
-  pub flip-terms : (x y : Term) → compare-terms o x y ≡ Less → compare-terms o y x ≡ Greater
-  unfolding compare-terms
-  flip-terms x y h = flip-words (letters (x .row)) (letters (y .row)) h
-
-  pub trans-terms : (x y z : Term) → compare-terms o x y ≡ Greater → compare-terms o y z ≡ Greater → compare-terms o x z ≡ Greater
-  unfolding compare-terms
-  trans-terms x y z h k = trans-words (letters (x .row)) (letters (y .row)) (letters (z .row)) h k
-
   pub greater-other : (z x : Term) → compare-terms o z x ≡ Greater → ¬ (letters (x .row) ≡ letters (z .row))
   unfolding compare-terms
   greater-other z x h e =
@@ -49,4 +42,4 @@ module _ (o : OrderModel) where
 
   pub above-rest : (z x : Term) (xs : List Term) → compare-terms o z x ≡ Greater → Above o x xs → Above o z xs
   above-rest z x [] h a = tt
-  above-rest z x (y ∷ xs) h a = trans-terms z x y h a
+  above-rest z x (y ∷ xs) h a = greater-trans o z x y h a

@@ -15,8 +15,9 @@ use Rattle.words.specs.declared.term.Term.{Term}
 use Rattle.words.proofs.Filling.{row-of-letters}
 use Rattle.kept.specs.Kept.{compare-terms}
 use Rattle.kept.specs.Falling.{Above, Falls}
+use Rattle.kept.proofs.Ordered.{greater-of-less}
 use Rattle.normal_forms.specs.Terms.{sum-of, HoldsWord, IsTerm, KeptTerms}
-use Rattle.normal_forms.proofs.Order.{equal-terms, flip-terms, greater-other, above-rest}
+use Rattle.normal_forms.proofs.Order.{equal-terms, greater-other, above-rest}
 
 when-yes : (R : CommutativeRing) {A : Type 0} (d : Dec A) (a : R .carrier) → A → when R d a ≡ a
 when-yes R (yes _) a p = refl
@@ -80,7 +81,7 @@ module _ (m : Coding) (o : OrderModel) (n : ℕ) where
       at : (KeptTerms m o n xs → KeptTerms m o n ys → sum-of m xs ≈ sum-of m ys → xs ≡ ys) → (r : Ordering) → compare-terms o x y ≡ r → x ∷ xs ≡ y ∷ ys
       at go Less e =
           absurd (not-zero y (b .terms .0) (b .kept .none-zero .0)
-          (sym (coeff-first y ys (b .kept .falls)) ∙ sym (h (letters (y .row))) ∙ coeff-above y (x ∷ xs) (flip-terms o x y e) (a .kept .falls)))
+          (sym (coeff-first y ys (b .kept .falls)) ∙ sym (h (letters (y .row))) ∙ coeff-above y (x ∷ xs) (greater-of-less o x y e) (a .kept .falls)))
       at go Greater e =
           absurd (not-zero x (a .terms .0) (a .kept .none-zero .0)
           (sym (coeff-first x xs (a .kept .falls)) ∙ h (letters (x .row)) ∙ coeff-above x (y ∷ ys) e (b .kept .falls)))

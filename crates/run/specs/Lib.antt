@@ -4,3 +4,4 @@ pub mod Entries
 pub mod Relations
 pub mod Step
 pub mod Calls
+pub mod Post

@@ -1,6 +1,6 @@
 // Why a run refuses, and where.
 ghost use mathlib.Core.Path.{_≡_};
-ghost use Rattle.run.specs.Faults.{cause-of-kept, number-and-layer, run-refusal};
+ghost use Rattle.run.specs.Faults.{cause-of-kept, number-and-layer, run-refusal, loading, stepping, at-step};
 ghost use Rattle.run.specs.declared.fault.Cause.the-variants.{Coefficient};
 use coefficients::fault::RingFault;
 use coefficients::fault::RingFaultDebug;
@@ -52,6 +52,39 @@ pub struct Place {
 pub struct RunFault {
     pub cause: Cause,
     pub place: Place,
+}
+
+impl Place {
+    // In loading, by the places in the first and the second list.
+    pub fn loading(a: u64, b: u64) -> Place
+        ensures { λ r. ⌜ r ≡ loading a b ⌝ }
+    {
+        Place {
+            step: 0,
+            a,
+            b,
+            e: 0,
+        }
+    }
+
+    // In a step, by the letters exchanged and the tail term.
+    pub fn stepping(step: u64, j: u64, i: u64, e: u64) -> Place
+        ensures { λ r. ⌜ r ≡ stepping step j i e ⌝ }
+    {
+        Place {
+            step,
+            a: j,
+            b: i,
+            e,
+        }
+    }
+
+    // A step as a whole.
+    pub fn at_step(step: u64) -> Place
+        ensures { λ r. ⌜ r ≡ at-step step ⌝ }
+    {
+        Place::stepping(step, 0, 0, 0)
+    }
 }
 
 impl Cause {

@@ -16,3 +16,5 @@ pub struct Relation {
 
 // The relation of x_j x_i is at place 8 (j − 1) + (i − 1).
 pub type Table = [Relation; 64];
+
+mod methods;
