@@ -1,4 +1,4 @@
--- The order of terms, by that of their words: terms that compare equal have the same word, and greater is transitive.
+-- The order of words and of terms: greater is transitive, terms that compare equal have the same word, and greater ones another.
 use mathlib.Core.Path.{_≡_, sym, ap, _∙_}
 use mathlib.Core.List.{List, [], _∷_}
 use Prim.Native.Nat.{ℕ}
