@@ -7,7 +7,7 @@ use std::time::Instant;
 
 unsafe extern "C" {
     /// Normalises the word with coefficient 1 so many times; 0 Weyl algebra, 1 sl2, 2 commuting plane, 3 the Weyl algebra of four pairs.
-    /// The steps of one run times 1,000 and the number of terms, or the number of the refusal.
+    /// The steps of one run times 10,000 and the number of terms, or 0.
     fn normalise_many(algebra: u32, word: *const u8, length: usize, times: u64) -> u64;
 }
 
@@ -59,14 +59,14 @@ fn compare(name: &str, which: u32, parts: &[(u8, usize)], times: u64) {
             last = normalise(&relations, &word, &mut work, &mut out);
         }
         let (count, steps) = last.unwrap_or_else(|number| panic!("{name}: the reference refuses {number}"));
-        (steps * times, steps * 1000 + count as u64)
+        (steps * times, steps * 10_000 + count as u64)
     });
     let (proved, answer) = best(|| {
         let answer = unsafe { normalise_many(which, word.as_ptr(), word.len(), times) };
-        (answer / 1000 * times, answer)
+        (answer / 10_000 * times, answer)
     });
-    assert_eq!(answer, expected, "{name}: steps · 1000 + terms");
-    println!("{name:28} {:7} steps {:4} terms   plain {plain:7.1} ns   proved {proved:7.1} ns   ratio {:.2}", answer / 1000, answer % 1000, proved / plain);
+    assert_eq!(answer, expected, "{name}: steps · 10,000 + terms");
+    println!("{name:28} {:7} steps {:4} terms   plain {plain:7.1} ns   proved {proved:7.1} ns   ratio {:.2}", answer / 10_000, answer % 10_000, proved / plain);
 }
 
 fn main() {

@@ -1,7 +1,9 @@
--- Lists that make normal forms: they tell these apart, and are congruent to what they are normal forms of.
+-- Lists that make normal forms: a result memory holds one, they tell normal forms apart, and are congruent to what they are normal forms of.
 use mathlib.Core.Path.{_≡_, sym, ap, _∙_}
 use mathlib.Core.List.{List, []}
 use Prim.Native.Nat.{ℕ}
+use lib.ListN.{take}
+use Rattle.std.specs.declared.result.Result.the-variants.{Ok}
 use Rattle.theory.specs.FreeSum.{FreeSum, coeff, _≈_}
 use Rattle.theory.specs.Words.{OverSum}
 use Rattle.theory.specs.Relations.{Relations}
@@ -13,11 +15,15 @@ use Rattle.coefficients.specs.Coding.{Coding}
 use Rattle.orders.specs.Models.{OrderModel}
 use Rattle.words.specs.declared.term.Term.{Term}
 use Rattle.run.specs.declared.relation.Relation.{Relation}
+use Rattle.run.specs.Entries.{Entry}
+use Rattle.run.specs.Calls.{Memory, calculate, Answered}
 use Rattle.normal_forms.specs.Terms.{sum-of}
 use Rattle.normal_forms.specs.Relations.{relations-of, Ends, Valid}
+use Rattle.normal_forms.specs.Entries.{StandFor}
 use Rattle.normal_forms.specs.Theorems.{IsNormalForm, TellApart}
 use Rattle.normal_forms.proofs.Ends.{tails-over}
 use Rattle.normal_forms.proofs.Letters.{terms-over}
+use Rattle.normal_forms.proofs.Running.{calculates}
 use Rattle.normal_forms.proofs.Unique.{kept-equal, kept-empty}
 
 module _ (m : Coding) (o : OrderModel) (n : ℕ) (table : List Relation) (ends : Ends m n table) where
@@ -44,6 +50,10 @@ module _ (m : Coding) (o : OrderModel) (n : ℕ) (table : List Relation) (ends :
   }
 
 module _ (m : Coding) (o : OrderModel) (n : ℕ) (table : List Relation) (valid : Valid m o n table) (ends : Ends m n table) where
+  pub memory-holds : (mem : Memory) (es : List Entry) (f : FreeSum (m .ring)) (work out : List Term) (p : ℕ × ℕ) → StandFor m n es f → Answered (calculate m o table mem es) work out (Ok p)
+      → IsNormalForm m o n table ends f (take (p .0) out)
+  memory-holds mem es f work out p s a = calculates m o n table valid ends mem es f (record { terms = take (p .0) out; steps = p .1 }) s (sym (a .1))
+
   pub terms-congruent : (f : FreeSum (m .ring)) (ts : List Term) → OverSum n f → IsNormalForm m o n table ends f ts → StandardForm (relations-of m n table) f (sum-of m ts)
   unfolding relations-of
   terms-congruent f ts over a =

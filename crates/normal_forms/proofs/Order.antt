@@ -1,4 +1,4 @@
--- The order of terms, by that of their words: terms that compare equal have the same word, and greater is transitive.
+-- The order of words and of terms: greater is transitive, terms that compare equal have the same word, and greater ones another.
 use mathlib.Core.Path.{_≡_, sym, ap, _∙_}
 use mathlib.Core.List.{List, [], _∷_}
 use Prim.Native.Nat.{ℕ}
@@ -15,7 +15,7 @@ use Rattle.kept.specs.Falling.{Above}
 use Rattle.kept.proofs.Ordered.{greater-trans}
 
 module _ (o : OrderModel) where
-  pub flip-words : (u v : List ℕ) → compare-words o u v ≡ Less → compare-words o v u ≡ Greater
+  flip-words : (u v : List ℕ) → compare-words o u v ≡ Less → compare-words o v u ≡ Greater
   flip-words u v h = words-ordered o .converse u v tt tt ∙ ap reversed h
 
   flip-greater : (u v : List ℕ) → compare-words o u v ≡ Greater → compare-words o v u ≡ Less

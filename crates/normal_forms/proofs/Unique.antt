@@ -15,8 +15,8 @@ use Rattle.words.specs.declared.term.Term.{Term}
 use Rattle.words.proofs.Filling.{row-of-letters}
 use Rattle.kept.specs.Kept.{compare-terms}
 use Rattle.kept.specs.Falling.{Above, Falls}
-use Rattle.normal_forms.specs.Terms.{sum-of, HoldsWord, IsTerm, KeptTerms}
 use Rattle.kept.proofs.Ordered.{greater-of-less}
+use Rattle.normal_forms.specs.Terms.{sum-of, HoldsWord, IsTerm, KeptTerms}
 use Rattle.normal_forms.proofs.Order.{equal-terms, greater-other, above-rest}
 
 when-yes : (R : CommutativeRing) {A : Type 0} (d : Dec A) (a : R .carrier) → A → when R d a ≡ a

@@ -1,5 +1,5 @@
 -- The table of the first Weyl algebra is valid: the empty word comes before every other, whatever the order.
-use mathlib.Core.Path.{_≡_, refl, sym, ap, ap₂, subst, _∙_}
+use mathlib.Core.Path.{_≡_, refl, sym, ap, subst, _∙_}
 use mathlib.Core.Logic.{_⊎_, inl, inr}
 use mathlib.Core.List.{List, [], _∷_, head-eq-of-cons-eq, tail-eq-of-cons-eq}
 use Prim.Native.Nat.{ℕ, _+_, _<_}
@@ -8,7 +8,6 @@ use lib.ListN.{length}
 use Rattle.std.specs.declared.cmp.Ordering.{Ordering}
 use Rattle.std.specs.declared.cmp.Ordering.the-variants.{Less, Equal, Greater}
 use Rattle.theory.specs.FreeSum.{single}
-use Rattle.theory.specs.Relations.{Pair}
 use Rattle.coefficients.specs.Coding.{Coding}
 use Rattle.orders.specs.Letters.{image, length-image}
 use Rattle.orders.specs.Orders.{first-difference, plus, reversed}
@@ -20,7 +19,7 @@ use Rattle.words.specs.declared.term.Term.{Term}
 use Rattle.run.specs.Relations.{relation-of, tail-of}
 use Rattle.normal_forms.specs.Terms.{Among, sum-of}
 use Rattle.normal_forms.specs.Relations.{relations-of, TailTerm, ValidRelation}
-use Rattle.normal_forms.specs.Examples.{weyl-relation, weyl-table, WeylTable}
+use Rattle.normal_forms.specs.Examples.{weyl-table, WeylTable}
 use Rattle.normal_forms.proofs.Images.{image-append}
 use Rattle.normal_forms.proofs.Rows.{row-holds}
 

@@ -3,6 +3,7 @@ use mathlib.Core.Path.{_≡_}
 use mathlib.Core.Logic.{_↔_}
 use mathlib.Core.List.{List, [], _∷_, _++_}
 use Prim.Native.Nat.{ℕ}
+use lib.ListN.{take}
 use Rattle.std.specs.declared.result.Result.the-variants.{Ok}
 use Rattle.theory.specs.FreeSum.{FreeSum, _≈_, negate, times}
 use Rattle.theory.specs.Words.{OverSum, AllStandard}
@@ -17,7 +18,7 @@ use Rattle.kept.specs.Falling.{Above}
 use Rattle.run.specs.declared.relation.Relation.{Relation}
 use Rattle.run.specs.Entries.{Entry}
 use Rattle.run.specs.Step.{State, Outcome, step-of}
-use Rattle.run.specs.Calls.{Memory, calculate, first-entries, second-entries, negated-entries, product-entries}
+use Rattle.run.specs.Calls.{Memory, calculate, Answered, first-entries, second-entries, negated-entries, product-entries}
 use Rattle.normal_forms.specs.Terms.{Among, sum-of, IsTerm, AreTerms, KeptTerms}
 use Rattle.normal_forms.specs.Relations.{relations-of, Ends, Valid}
 use Rattle.normal_forms.specs.Entries.{StandFor}
@@ -99,6 +100,12 @@ abbrev pub Answered-runs : Coding → OrderModel → Type 0
 Answered-runs m o = (n : ℕ) (table : List Relation) → Valid m o n table → (ends : Ends m n table)
     → (mem : Memory) (es : List Entry) (f : FreeSum (m .ring)) (r : Outcome) → StandFor m n es f → calculate m o table mem es ≡ Ok r
     → IsNormalForm m o n table ends f (r .terms)
+
+-- so the result memory holds it, where a call answers how many terms are there
+abbrev pub Answered-memories : Coding → OrderModel → Type 0
+Answered-memories m o = (n : ℕ) (table : List Relation) → Valid m o n table → (ends : Ends m n table)
+    → (mem : Memory) (es : List Entry) (f : FreeSum (m .ring)) (work out : List Term) (p : ℕ × ℕ) → StandFor m n es f → Answered (calculate m o table mem es) work out (Ok p)
+    → IsNormalForm m o n table ends f (take (p .0) out)
 
 abbrev pub Answered-calls : Coding → OrderModel → Type 0
 Answered-calls m o = (n : ℕ) (table : List Relation) → Valid m o n table → (ends : Ends m n table) (mem : Memory) → CallsAnswer m o n table ends mem

@@ -2,7 +2,7 @@
 // Each function here has a theorem for its contract, over every ring and every order that have a model, so that the crate is proved only if
 // the theorem is.
 ghost use Rattle.normal_forms.specs.Theorems.{Insertion-adds, Kept-lists-equal, Kept-list-empty, Valid-tails-over, Valid-ends, Steps-keep, Answered-runs};
-ghost use Rattle.normal_forms.specs.Theorems.{Answered-calls, Terms-tell-apart, Terms-are-congruent};
+ghost use Rattle.normal_forms.specs.Theorems.{Answered-memories, Answered-calls, Terms-tell-apart, Terms-are-congruent};
 ghost use Rattle.normal_forms.specs.Examples.{WeylTable};
 use coefficients::ring::Ring;
 use orders::order::MonomialOrder;
@@ -43,7 +43,12 @@ pub fn answered_runs_are_normal_forms<R: Ring, O: MonomialOrder>()
     ensures { λ _. ⌜ ((k : R) (o : O) → Answered-runs (R·Ring .model k) (O·MonomialOrder .model o)) ⌝ }
 {}
 
-// So normalise, sum, difference and product answer the normal forms of their lists, of their sum, their difference and their product.
+// So where a call answers that its result memory holds so many terms, these are the normal form.
+pub fn answered_memories_hold_normal_forms<R: Ring, O: MonomialOrder>()
+    ensures { λ _. ⌜ ((k : R) (o : O) → Answered-memories (R·Ring .model k) (O·MonomialOrder .model o)) ⌝ }
+{}
+
+// And normalise, sum, difference and product answer the normal forms of their lists, of their sum, their difference and their product.
 pub fn answered_calls_are_normal_forms<R: Ring, O: MonomialOrder>()
     ensures { λ _. ⌜ ((k : R) (o : O) → Answered-calls (R·Ring .model k) (O·MonomialOrder .model o)) ⌝ }
 {}
