@@ -147,21 +147,31 @@ impl Work<'_> {
     }
 }
 
-/// Normalises one word with coefficient 1: how many terms and steps, or the number of the refusal.
-pub fn normalise(relations: &[Vec<Relation>], word: &[u8], work: &mut [Term], out: &mut [Term]) -> Result<(usize, u64), u8> {
+/// Normalises one word with coefficient 1: how many steps there were, and how many terms or which refusal.
+pub fn normalise(relations: &[Vec<Relation>], word: &[u8], work: &mut [Term], out: &mut [Term]) -> (u64, Result<usize, u8>) {
     work.fill(BLANK);
     out.fill(BLANK);
+    let mut steps = 0;
+    let answer = run(relations, word, work, out, &mut steps);
+    if answer.is_err() {
+        work.fill(BLANK);
+        out.fill(BLANK);
+    }
+    (steps, answer)
+}
+
+fn run(relations: &[Vec<Relation>], word: &[u8], work: &mut [Term], out: &mut [Term], steps: &mut u64) -> Result<usize, u8> {
     let start = work.len();
     let mut work = Work { memory: work, start };
     let mut row = [0; 32];
     row[..word.len()].copy_from_slice(word);
     work.insert(Term { row, code: 2 })?;
-    let (mut count, mut steps) = (0, 0);
+    let mut count = 0;
     while work.start < work.memory.len() {
-        if steps == 1_000_000 {
+        if *steps == 1_000_000 {
             return Err(25);
         }
-        steps += 1;
+        *steps += 1;
         let term = std::mem::replace(&mut work.memory[work.start], BLANK);
         work.start += 1;
         let n = length(&term.row);
@@ -187,5 +197,5 @@ pub fn normalise(relations: &[Vec<Relation>], word: &[u8], work: &mut [Term], ou
             work.insert(Term { row, code: code(value(term.code) * value(*e)).ok_or(10)? })?;
         }
     }
-    Ok((count, steps))
+    Ok(count)
 }

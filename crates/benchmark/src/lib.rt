@@ -56,25 +56,43 @@ fn algebra(which: u32) -> Option<Table> {
     Some(table)
 }
 
-// Normalises a word with coefficient 1 so many times: its steps times 10,000 and the number of its terms, or 0.
+// The steps of one run times 10,000 and the number of its terms, 9,999 where it was refused.
+fn repeated(
+    order: &Degree,
+    table: &Table,
+    list: &[Term],
+    work: &mut [Term],
+    out: &mut [Term],
+    times: u64,
+) -> u64 {
+    let mut answer = 0u64;
+    for _ in 0..times {
+        answer = match normalise(&Integers, order, table, list, work, out) {
+            Ok((count, steps)) => steps.saturating_mul(10000).saturating_add(count as u64),
+            Err(fault) => fault.place.step.saturating_mul(10000).saturating_add(9999),
+        };
+    }
+    answer
+}
+
+// Normalises a word with coefficient 1 so many times.
 #[unsafe(no_mangle)]
 pub extern "C" fn normalise_many(which: u32, letters: &[u8], times: u64) -> u64 {
     let Ok(one) = Weight::new(1) else {
         return 0;
     };
-    let order = Degree::new([one; 8]);
     let Some(table) = algebra(which) else {
         return 0;
     };
     let list = [term(letters, ONE)];
     let mut work = [Term::blank(); 4096];
     let mut out = [Term::blank(); 4096];
-    let mut answer = 0u64;
-    for _ in 0..times {
-        answer = match normalise(&Integers, &order, &table, &list, &mut work, &mut out) {
-            Ok((count, steps)) => steps.saturating_mul(10000).saturating_add(count as u64),
-            Err(_) => 0,
-        };
-    }
-    answer
+    repeated(
+        &Degree::new([one; 8]),
+        &table,
+        &list,
+        &mut work,
+        &mut out,
+        times,
+    )
 }
