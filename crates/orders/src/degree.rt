@@ -40,15 +40,22 @@ impl Degree {
 pub impl MonomialOrder for Degree as DegreeOrder {
     ghost model = { λ d. degree-model (weight-values (d .weights)) };
 
+    // Equal images need no weights.
     fn compare(&self, a: &Image, b: &Image) -> Ordering {
-        let x = self.weighted(a);
-        let y = self.weighted(b);
-        if x < y {
-            return Ordering::Less;
+        let by_counts = a.first_difference(b);
+        match by_counts {
+            Ordering::Equal => Ordering::Equal,
+            _ => {
+                let x = self.weighted(a);
+                let y = self.weighted(b);
+                if x < y {
+                    return Ordering::Less;
+                }
+                if x > y {
+                    return Ordering::Greater;
+                }
+                by_counts
+            }
         }
-        if x > y {
-            return Ordering::Greater;
-        }
-        a.first_difference(b)
     }
 }
