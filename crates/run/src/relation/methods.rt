@@ -46,6 +46,7 @@ impl Relation {
     {
         let j = j as usize;
         let i = i as usize;
-        &table[8 * (j - 1) + (i - 1)]
+        let place = 8 * (j - 1) + (i - 1);
+        &table[place]
     }
 }

@@ -6,4 +6,4 @@ use Rattle.run.proofs.relation.Relation.of_pair.Needs as need
 
 pub returns : need.returns
 unfolding relation-of
-returns c = getD-default (c .args .table .now) (8 * (c .args .j - 1) + (c .args .i - 1)) (c .index-table-j .result) null (omega arith)
+returns c = getD-default (c .args .table .now) (8 * (c .args .j - 1) + (c .args .i - 1)) (c .index-table-place .result) null (omega arith)
