@@ -51,8 +51,8 @@ fn best(mut run: impl FnMut() -> (u64, u64)) -> (f64, u64) {
 fn compare(name: &str, which: u32, parts: &[(u8, usize)], times: u64) {
     let word = word(parts);
     let relations = algebra(which);
-    let mut work = vec![BLANK; 4096];
-    let mut out = vec![BLANK; 4096];
+    let mut work = vec![BLANK; 512];
+    let mut out = vec![BLANK; 512];
     let (plain, expected) = best(|| {
         let mut last = (0, Err(0));
         for _ in 0..times {

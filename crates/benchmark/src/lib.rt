@@ -85,8 +85,8 @@ pub extern "C" fn normalise_many(which: u32, letters: &[u8], times: u64) -> u64 
         return 0;
     };
     let list = [term(letters, ONE)];
-    let mut work = [Term::blank(); 4096];
-    let mut out = [Term::blank(); 4096];
+    let mut work = [Term::blank(); 512];
+    let mut out = [Term::blank(); 512];
     repeated(
         &Degree::new([one; 8]),
         &table,

@@ -98,9 +98,3 @@ letter-at y z w e =
 
 pub place-more : (xs : List ℕ) (i z : ℕ) → i < length xs → z ≡ cond (is-letter (getD xs i 0)) (getD xs i 0) 0 → letters (drop i xs) ≡ cond (eqb z 0) [] (z ∷ letters (drop (i + 1) xs))
 place-more xs i z h e = ap letters (drop-more xs i 0 h) ∙ letter-at (getD xs i 0) z (letters (drop (i + 1) xs)) e
-
-pub place-stop : (xs : List ℕ) (i z : ℕ) → i < length xs → z ≡ cond (is-letter (getD xs i 0)) (getD xs i 0) 0 → z ≡ 0 → letters (drop i xs) ≡ []
-place-stop xs i z h e n = place-more xs i z h e ∙ rw (eq-eqb z 0 n)
-
-pub place-go : (xs : List ℕ) (i z : ℕ) → i < length xs → z ≡ cond (is-letter (getD xs i 0)) (getD xs i 0) 0 → 0 < z → letters (drop i xs) ≡ z ∷ letters (drop (i + 1) xs)
-place-go xs i z h e n = place-more xs i z h e ∙ rw (ne-eqb z 0 (λ q. omega arith))

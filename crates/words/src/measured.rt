@@ -1,9 +1,9 @@
-// A row with its image and its inversions counted once, to be compared with many others.
+// A row with its image counted once, to be compared with many others. Inversions are counted only where images are equal and words differ,
+// which is rare.
 ghost use mathlib.Core.Path.{_≡_};
 ghost use Rattle.orders.specs.Images.{counts};
 ghost use Rattle.orders.specs.Letters.{letters, image as image-of};
 ghost use Rattle.words.specs.Compare.{compare-words};
-ghost use Rattle.words.specs.Inversions.{inversions as inversions-of};
 use crate::row::by_numbers;
 use crate::row::first_letter_difference;
 use crate::row::row_inversions;
@@ -16,9 +16,7 @@ use std::cmp::Ordering;
 pub struct Measured {
     row: Row,
     image: Image,
-    inversions: usize,
     ghost counted: { counts image ≡ image-of (letters row) },
-    ghost told: { inversions ≡ inversions-of (letters row) },
 }
 
 impl Measured {
@@ -26,12 +24,7 @@ impl Measured {
         ensures { λ r. ⌜ r .row ≡ row ⌝ }
     {
         let image = Image::of_row(&row);
-        let inversions = row_inversions(&row);
-        Measured {
-            row,
-            image,
-            inversions,
-        }
+        Measured { row, image }
     }
 
     // As compare_rows compares its row with the other.
@@ -44,7 +37,7 @@ impl Measured {
                 let by_letters = first_letter_difference(&self.row, other);
                 match by_letters {
                     Ordering::Equal => Ordering::Equal,
-                    _ => by_numbers(self.inversions, row_inversions(other), by_letters),
+                    _ => by_numbers(row_inversions(&self.row), row_inversions(other), by_letters),
                 }
             }
             _ => by_image,

@@ -118,15 +118,12 @@ pub(crate) fn first_letter_difference(a: &Row, b: &Row) -> Ordering
     ensures { λ r. ⌜ r ≡ first-difference (letters (now (a .entry))) (letters (now (b .entry))) ⌝ }
 {
     for i in 0..ROW_LENGTH {
-        let x = letter_or_zero(a[i]);
-        let y = letter_or_zero(b[i]);
-        if x < y {
-            return Ordering::Less;
+        if a[i] != b[i] {
+            let x = letter_or_zero(a[i]);
+            let y = letter_or_zero(b[i]);
+            return by_numbers(x as usize, y as usize, Ordering::Equal);
         }
-        if x > y {
-            return Ordering::Greater;
-        }
-        if x == 0 {
+        if !is_letter(a[i]) {
             return Ordering::Equal;
         }
     }

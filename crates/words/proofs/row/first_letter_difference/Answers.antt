@@ -2,34 +2,38 @@ use mathlib.Core.Path.{_≡_, refl, ap, ap₂, sym, _∙_}
 use native.Mathlib.Omega.{arith}
 use lib.ListN.{length, getD}
 use Rattle.std.proofs.shelf.Ways.{tells}
-use Rattle.orders.specs.Letters.{letters}
+use mathlib.Core.Bool.{true, false}
+use Rattle.orders.specs.Letters.{letters, is-letter}
 use Rattle.orders.specs.Orders.{first-difference}
-use Rattle.orders.proofs.Steps.{letters-end}
-use Rattle.words.proofs.Filling.{place-more, place-stop, place-go}
+use Rattle.orders.proofs.Steps.{letters-stop, letters-go, letters-end}
+use Rattle.words.proofs.Filling.{place-more}
 use Rattle.words.proofs.row.first_letter_difference.Needs as need
 
-pub returns-then-x-y : need.returns-then-x-y
-returns-then-x-y c =
+pub returns-then-a-i : need.returns-then-a-i
+returns-then-a-i c =
     let x = place-more (c .args .a .now) (c .loop-i .i) (c .letter-or-zero-x .result) (omega arith) (c .letter-or-zero-x .ensures) in
-    let y = place-go (c .args .b .now) (c .loop-i .i) (c .letter-or-zero-y .result) (omega arith) (c .letter-or-zero-y .ensures) (omega arith) in
-    grind (arith, tells)
-
-pub returns-then-x-y-2 : need.returns-then-x-y-2
-returns-then-x-y-2 c =
-    let x = place-go (c .args .a .now) (c .loop-i .i) (c .letter-or-zero-x .result) (omega arith) (c .letter-or-zero-x .ensures) (omega arith) in
     let y = place-more (c .args .b .now) (c .loop-i .i) (c .letter-or-zero-y .result) (omega arith) (c .letter-or-zero-y .ensures) in
+    let p = c .letter-or-zero-x .ensures in
+    let q = c .letter-or-zero-y .ensures in
+    let r = c .by-numbers .ensures in
+    let h = c .loop-i .inv in
     grind (arith, tells)
 
-pub returns-then-x-eq0 : need.returns-then-x-eq0
-returns-then-x-eq0 c =
-    let x = place-stop (c .args .a .now) (c .loop-i .i) (c .letter-or-zero-x .result) (omega arith) (c .letter-or-zero-x .ensures) (omega arith) in
-    let y = place-stop (c .args .b .now) (c .loop-i .i) (c .letter-or-zero-y .result) (omega arith) (c .letter-or-zero-y .ensures) (omega arith) in
+pub returns-then-not-is-letter : need.returns-then-not-is-letter
+returns-then-not-is-letter c =
+    let n : is-letter (getD (c .args .a .now) (c .loop-i .i) 0) ≡ false = sym (c .if-not-is-letter .ensures tt) in
+    let e : getD (c .args .a .now) (c .loop-i .i) 0 ≡ getD (c .args .b .now) (c .loop-i .i) 0 = omega arith in
+    let x = letters-stop (c .args .a .now) (c .loop-i .i) (omega arith) n in
+    let y = letters-stop (c .args .b .now) (c .loop-i .i) (omega arith) (ap is-letter (sym e) ∙ n) in
     rw (x, y) at (c .loop-i .inv)
 
 pub loop-i-again : need.loop-i-again
 loop-i-again c =
-    let x = place-go (c .args .a .now) (c .loop-i .i) (c .letter-or-zero-x .result) (omega arith) (c .letter-or-zero-x .ensures) (omega arith) in
-    let y = place-go (c .args .b .now) (c .loop-i .i) (c .letter-or-zero-y .result) (omega arith) (c .letter-or-zero-y .ensures) (omega arith) in
+    let n : is-letter (getD (c .args .a .now) (c .loop-i .i) 0) ≡ true = sym (c .if-not-is-letter .ensures tt) in
+    let e : getD (c .args .a .now) (c .loop-i .i) 0 ≡ getD (c .args .b .now) (c .loop-i .i) 0 = omega arith in
+    let x = letters-go (c .args .a .now) (c .loop-i .i) (omega arith) n in
+    let y = letters-go (c .args .b .now) (c .loop-i .i) (omega arith) (ap is-letter (sym e) ∙ n) in
+    let h = c .loop-i .inv in
     grind (arith, tells)
 
 pub returns : need.returns
