@@ -10,7 +10,7 @@ use Rattle.orders.specs.Models.{OrderModel}
 use Rattle.words.specs.declared.term.Term.{Term}
 use Rattle.run.specs.declared.relation.Relation.{Relation}
 use Rattle.run.specs.Relations.{pair-place, tail-of}
-use Rattle.relations.specs.Declare.{passed, declare-answer}
+use Rattle.relations.specs.Declare.{passed, declare-answer, AllFull}
 use Rattle.relations.specs.declared.open.Presentation.{Presentation}
 
 -- x_j x_i = c x_i x_j + tail
@@ -36,6 +36,7 @@ pub record Accepted (m : Coding) (o : OrderModel) (n : ℕ) (declared : List Boo
   pub place : p ≡ pair-place j i
   pub within : p < 64
   pub says : Says r c tail
+  pub full : AllFull tail
 
 -- the pair j, i has this relation now and counts as declared; all else is as it was
 pub record Declares (j i c : ℕ) (tail : List Term) (table : List Relation) (declared : List Bool) (table′ : List Relation) (declared′ : List Bool) : Type 0 where

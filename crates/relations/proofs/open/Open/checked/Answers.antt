@@ -40,7 +40,7 @@ returns-in-Break-check-tail g c =
     let s = c .args .self .now in
     let q = s .presentation in
     let p = err-from-errBy (c .from-residual-in-Break-check-tail .result) (c .from-residual-in-Break-check-tail .ensures .1) in
-    let t = c .in-Break-check-tail .ensures tt in
+    let t = c .in-Break-check-tail .ensures tt .answer in
     let r = c .in-Continue-relation .ensures tt in
     rw (p .1, p .2)
     (tail-decides (g .R·Ring .model (s .ring)) (g .O·MonomialOrder .model (s .order)) (q .count .n) (q .declared) (c .args .j) (c .args .i) (c .args .factor) (c .args .tail .now)
@@ -54,7 +54,7 @@ returns g c =
     let r = c .in-Continue-relation .ensures tt in
     let a = c .in-Continue-place .ensures tt in
     let pair = a .pair in
-    let t = c .in-Continue-check-tail .ensures tt in
+    let t = c .in-Continue-check-tail .ensures tt .answer in
     let range = q .count .range in
     let place = pair-gives (q .count .n) (q .declared) (c .args .j) (c .args .i) _ (pair-place (c .args .j) (c .args .i)) (a .answer) in
     record {
@@ -65,4 +65,5 @@ returns g c =
       place = place;
       within = omega arith;
       says = r .1;
+      full = c .in-Continue-check-tail .ensures tt .full;
     }
