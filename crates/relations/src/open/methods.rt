@@ -7,6 +7,7 @@ ghost use Rattle.std.specs.Results.{Cases};
 ghost use Rattle.relations.specs.Declare.{passed, check, check-pair, check-factor, declare-answer};
 ghost use Rattle.relations.specs.Presentations.{Says, Plain, Opened, Accepted, Declares};
 ghost use Rattle.run.specs.Relations.{pair-place};
+ghost use Rattle.normal_forms.specs.Relations.{Valid};
 ghost use Rattle.theory.specs.Relations.{Pair};
 ghost use Rattle.std.specs.declared.result.Result.the-variants.{Ok, Err};
 ghost use Rattle.relations.specs.declared.fault.DeclareCause.the-variants.{TailSize};
@@ -112,6 +113,7 @@ impl<R: Ring, O: MonomialOrder> Open<R, O> {
     // Every pair has the factor one and no tail.
     pub fn new(count: Count, ring: R, order: O) -> Open<R, O>
         ensures same { λ r. ⌜ r .ring ≡ ring ⌝ ∗ ⌜ r .order ≡ order ⌝ ∗ ⌜ r .presentation .count ≡ count ⌝ }
+        ensures valid { λ r. ⌜ Valid (R·Ring .model (r .ring)) (O·MonomialOrder .model (r .order)) (r .presentation .count .n) (r .presentation .table) ⌝ }
         ensures opened { λ r. ⌜ Opened (R·Ring .model ring) (r .presentation .table) (r .presentation .declared) ⌝ }
     {
         let presentation = Presentation::plain(count, ring.one());
@@ -158,6 +160,7 @@ impl<R: Ring, O: MonomialOrder> Open<R, O> {
         ensures answered { λ r. ⌜ Cases r (λ _. Declares j i factor (now (tail .entry)) (now (self .entry) .presentation .table) (now (self .entry) .presentation .declared) (now (self .exit) .presentation .table) (now (self .exit) .presentation .declared)) (λ _. Unit {0}) ⌝ }
         ensures refused { λ r. ⌜ Cases r (λ _. Unit {0}) (λ _. (now (self .exit) .presentation .table ≡ now (self .entry) .presentation .table) × (now (self .exit) .presentation .declared ≡ now (self .entry) .presentation .declared)) ⌝ }
         ensures same { λ _. ⌜ now (self .exit) .ring ≡ now (self .entry) .ring ⌝ ∗ ⌜ now (self .exit) .order ≡ now (self .entry) .order ⌝ ∗ ⌜ now (self .exit) .presentation .count ≡ now (self .entry) .presentation .count ⌝ }
+        ensures keeps { λ _. ⌜ (Valid (R·Ring .model (now (self .entry) .ring)) (O·MonomialOrder .model (now (self .entry) .order)) (now (self .entry) .presentation .count .n) (now (self .entry) .presentation .table) → Valid (R·Ring .model (now (self .exit) .ring)) (O·MonomialOrder .model (now (self .exit) .order)) (now (self .exit) .presentation .count .n) (now (self .exit) .presentation .table)) ⌝ }
     {
         let (place, relation) = self.checked(j, i, factor, tail)?;
         self.presentation.table[place] = relation;
@@ -167,7 +170,9 @@ impl<R: Ring, O: MonomialOrder> Open<R, O> {
 
     // What a closed algebra goes on with.
     pub fn into_parts(self) -> (R, O, Presentation)
-        ensures { λ r. ⌜ r .0 ≡ self .ring ⌝ ∗ ⌜ r .1 ≡ self .order ⌝ ∗ ⌜ r .2 ≡ self .presentation ⌝ }
+        ensures ring { λ r. ⌜ r .0 ≡ self .ring ⌝ }
+        ensures order { λ r. ⌜ r .1 ≡ self .order ⌝ }
+        ensures presentation { λ r. ⌜ r .2 ≡ self .presentation ⌝ }
     {
         let Open {
             ring,

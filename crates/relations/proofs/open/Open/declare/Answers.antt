@@ -1,6 +1,7 @@
 use mathlib.Core.Path.{_≡_, refl, ap, sym}
 use mathlib.Core.Bool.{true}
 use lib.ListN.{set}
+use Rattle.relations.proofs.Validity.{declaring-keeps}
 use Rattle.relations.proofs.open.Open.declare.Needs as need
 
 pub returns : need.returns
@@ -18,4 +19,6 @@ returns g c =
       };
       refused = tt;
       same = (refl, (refl, refl));
+      keeps = declaring-keeps (g .R·Ring .model (c .args .self .now .ring)) (g .O·MonomialOrder .model (c .args .self .now .order)) (q .count .n) (q .table) (q .declared)
+          (c .args .j) (c .args .i) (c .args .factor) (c .args .tail .now) (c .in-Continue-place .place) x a;
     }
