@@ -11,7 +11,6 @@ use Rattle.words.specs.declared.term.Term.{Term}
 use Rattle.run.specs.declared.relation.Relation.{Relation}
 use Rattle.run.specs.Relations.{pair-place, tail-of}
 use Rattle.relations.specs.Declare.{passed, declare-answer, AllFull}
-use Rattle.relations.specs.declared.open.Presentation.{Presentation}
 
 -- x_j x_i = c x_i x_j + tail
 pub record Says (r : Relation) (c : ℕ) (ts : List Term) : Type 0 where

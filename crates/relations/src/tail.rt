@@ -81,7 +81,8 @@ fn is_before<O: MonomialOrder>(order: &O, row: &Row, j: u8, i: u8) -> bool
 {
     match order.compare(&Image::of_row(row), &Image::of_row(&pair_row(j, i))) {
         Ordering::Less => true,
-        _ => false,
+        Ordering::Equal => false,
+        Ordering::Greater => false,
     }
 }
 

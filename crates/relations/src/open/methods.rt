@@ -1,10 +1,10 @@
 // How an algebra is opened, and relations declared in it.
 ghost use mathlib.Core.Path.{_≡_};
-ghost use mathlib.Core.Bool.{true, false};
+ghost use mathlib.Core.Bool.{false};
 ghost use Prim.Native.Nat.{_<_, _≤_};
 ghost use lib.ListN.{length, replicate};
 ghost use Rattle.std.specs.Results.{Cases};
-ghost use Rattle.relations.specs.Declare.{passed, check, check-pair, check-factor, declare-answer};
+ghost use Rattle.relations.specs.Declare.{passed, check-pair, check-factor, declare-answer};
 ghost use Rattle.relations.specs.Presentations.{Says, Plain, Opened, Accepted, Declares};
 ghost use Rattle.run.specs.Relations.{pair-place};
 ghost use Rattle.normal_forms.specs.Relations.{Valid};
