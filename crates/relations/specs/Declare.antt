@@ -1,4 +1,5 @@
 -- What a declaration x_j x_i = c x_i x_j + tail comes to: its checks in their order, and the presentation after it.
+use mathlib.Core.Path.{_≡_}
 use mathlib.Core.List.{List, [], _∷_, _++_}
 use mathlib.Core.Bool.{Bool, true, false, cond, _&&_, not}
 use Prim.Native.Nat.{ℕ, _+_, _-_, _≤_}
@@ -12,7 +13,7 @@ use Rattle.std.specs.declared.cmp.Ordering.{Ordering}
 use Rattle.std.specs.declared.cmp.Ordering.the-variants.{Less, Equal, Greater}
 use Rattle.coefficients.specs.Coding.{Coding}
 use Rattle.coefficients.specs.declared.fault.RingFault.the-variants.{NotInUse}
-use Rattle.orders.specs.Letters.{letters, image, letter-count}
+use Rattle.orders.specs.Letters.{letters, image, letter-count, row-length}
 use Rattle.orders.specs.Models.{OrderModel, compare-images}
 use Rattle.words.specs.Inversions.{standard}
 use Rattle.words.specs.Rows.{is-row}
@@ -73,6 +74,11 @@ check-tail m o n j i last p (t ∷ ts) r = check-term m o n j i last p t (check-
 -- the term before place p of a list, if there is one
 abbrev pub last-at : List Term → ℕ → Option Term
 last-at ts p = cond (eqb p 0) None (Some (getD ts (p - 1) nil-term))
+
+-- every row has all its places
+abbrev pub AllFull : List Term → Type 0
+AllFull [] = Unit {0}
+AllFull (t ∷ ts) = (length (t .row) ≡ row-length) × AllFull ts
 
 -- the checks of a pair: both generators, j above i, not declared
 abbrev pub check-pair : {A : Type 0} → ℕ → List Bool → ℕ → ℕ → Result A DeclareFault → Result A DeclareFault

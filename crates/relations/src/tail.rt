@@ -7,8 +7,9 @@ ghost use lib.ListN.{length};
 ghost use Rattle.std.specs.Options.{mapped};
 ghost use Rattle.std.specs.declared.option.Option.the-variants.{None};
 ghost use Rattle.std.specs.declared.result.Result.the-variants.{Err};
-ghost use Rattle.orders.specs.Letters.{letters};
-ghost use Rattle.relations.specs.Declare.{passed, is-word, letters-to, below-last, image-before, last-at, check-term, check-tail};
+ghost use Rattle.std.specs.Results.{Cases};
+ghost use Rattle.orders.specs.Letters.{letters, row-length};
+ghost use Rattle.relations.specs.Declare.{passed, is-word, letters-to, below-last, image-before, last-at, check-term, check-tail, AllFull};
 use crate::fault::DeclareCause;
 use crate::fault::DeclareFault;
 use coefficients::fault::RingFault;
@@ -80,7 +81,8 @@ fn is_before<O: MonomialOrder>(order: &O, row: &Row, j: u8, i: u8) -> bool
 {
     match order.compare(&Image::of_row(row), &Image::of_row(&pair_row(j, i))) {
         Ordering::Less => true,
-        _ => false,
+        Ordering::Equal => false,
+        Ordering::Greater => false,
     }
 }
 
@@ -102,7 +104,8 @@ fn check_term<R: Ring, O: MonomialOrder>(
     t: &Term,
 ) -> Result<(), DeclareFault>
     requires { ⌜ 1 ≤ j ⌝ ∗ ⌜ j ≤ 8 ⌝ ∗ ⌜ 1 ≤ i ⌝ ∗ ⌜ i ≤ 8 ⌝ }
-    ensures { λ r. ⌜ r ≡ check-term (R·Ring .model (now (ring .entry))) (O·MonomialOrder .model (now (order .entry))) n j i (mapped now (last .entry)) place (now (t .entry)) passed ⌝ }
+    ensures full { λ _. ⌜ length (now (t .entry) .row) ≡ row-length ⌝ }
+    ensures answer { λ r. ⌜ r ≡ check-term (R·Ring .model (now (ring .entry))) (O·MonomialOrder .model (now (order .entry))) n j i (mapped now (last .entry)) place (now (t .entry)) passed ⌝ }
 {
     if !is_word_over(n, &t.row) {
         return refuse(DeclareCause::Generator, place);
@@ -140,7 +143,8 @@ pub fn check_tail<R: Ring, O: MonomialOrder>(
     tail: &[Term],
 ) -> Result<(), DeclareFault>
     requires { ⌜ 1 ≤ j ⌝ ∗ ⌜ j ≤ 8 ⌝ ∗ ⌜ 1 ≤ i ⌝ ∗ ⌜ i ≤ 8 ⌝ }
-    ensures { λ r. ⌜ r ≡ check-tail (R·Ring .model (now (ring .entry))) (O·MonomialOrder .model (now (order .entry))) n j i None 1 (now (tail .entry)) passed ⌝ }
+    ensures full { λ r. ⌜ Cases r (λ _. AllFull (now (tail .entry))) (λ _. Unit {0}) ⌝ }
+    ensures answer { λ r. ⌜ r ≡ check-tail (R·Ring .model (now (ring .entry))) (O·MonomialOrder .model (now (order .entry))) n j i None 1 (now (tail .entry)) passed ⌝ }
 {
     for p in 0..tail.len() {
         check_term(
