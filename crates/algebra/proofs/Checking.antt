@@ -1,8 +1,10 @@
 -- Checks one after another, and what a call answers after them.
 use mathlib.Core.Path.{_≡_, refl, ap, sym, subst, _∙_}
-use mathlib.Core.Bool.{Bool, true, false, cond}
+use mathlib.Core.Bool.{Bool, true, false, _&&_}
 use mathlib.Core.List.{List, [], _∷_}
 use Prim.Native.Nat.{ℕ, _+_, _<_, _≤_}
+use native.Mathlib.Omega.{arith}
+use lib.Dec.{ltb}
 use lib.ListN.{length, drop, getD}
 use Rattle.std.proofs.shelf.Lists.{drop-more, drop-all}
 use Rattle.std.specs.declared.result.Result.{Result}
@@ -15,13 +17,14 @@ use Rattle.run.specs.declared.fault.RunFault.{RunFault}
 use Rattle.run.specs.Entries.{then-do}
 use Rattle.run.specs.Step.{Outcome}
 use Rattle.run.specs.Calls as run
-use Rattle.relations.specs.Declare.{is-word}
+use Rattle.relations.specs.Declare.{is-word, is-generator}
 use Rattle.algebra.specs.declared.fault.CallCause.{CallCause}
-use Rattle.algebra.specs.declared.fault.CallCause.the-variants.{Generator, Coefficient}
+use Rattle.algebra.specs.declared.fault.CallCause.the-variants.{Generator, NotRising, Coefficient}
 use Rattle.algebra.specs.declared.fault.AlgebraFault.{AlgebraFault}
+use Rattle.algebra.specs.declared.fault.AlgebraFault.the-variants.{Call}
 use Rattle.algebra.specs.declared.verdict.Verdict.{Verdict}
 use Rattle.algebra.specs.declared.verdict.Verdict.the-variants.{Undecided, Sound, Degenerate}
-use Rattle.algebra.specs.Overlaps.{check, by-run}
+use Rattle.algebra.specs.Overlaps.{check, check-triple, by-run}
 use Rattle.algebra.specs.Calls.{Answered, when-sound, scan-first, scan-second}
 
 abbrev pub passed : Result (Unit {0}) AlgebraFault
@@ -117,3 +120,27 @@ refused checks r f e h = sym (e ∙ ap (λ q. then-do q (λ _. r)) h)
 pub allowed : {A : Type 0} {whole : Result A AlgebraFault} (checks : Result (Unit {0}) AlgebraFault) (r : Result A AlgebraFault) (u : Unit {0})
     → whole ≡ then-do checks (λ _. r) → checks ≡ Ok u → r ≡ whole
 allowed checks r u e h = sym (e ∙ ap (λ q. then-do q (λ _. r)) h)
+
+-- the checks of three generators that rise pass or not, whatever follows
+module _ {A B : Type 0} (n i j k : ℕ) (x : A) (r : Result B AlgebraFault) where
+  pub triple-passes : (y : A) → Ok y ≡ check-triple n i j k (Ok x) → (x ≡ y) × (r ≡ check-triple n i j k r)
+  triple-passes y h = at (is-generator n i) (is-generator n j) (is-generator n k) (ltb i j && ltb j k) h
+    where
+      at : (a b c d : Bool) → Ok y ≡ check a Generator 0 0 (check b Generator 0 0 (check c Generator 0 0 (check d NotRising 0 0 (Ok x))))
+          → (x ≡ y) × (r ≡ check a Generator 0 0 (check b Generator 0 0 (check c Generator 0 0 (check d NotRising 0 0 r))))
+      at false b c d q = let z : _≡_ {A = ℕ} 0 1 = cc in absurd (omega arith)
+      at true false c d q = let z : _≡_ {A = ℕ} 0 1 = cc in absurd (omega arith)
+      at true true false d q = let z : _≡_ {A = ℕ} 0 1 = cc in absurd (omega arith)
+      at true true true false q = let z : _≡_ {A = ℕ} 0 1 = cc in absurd (omega arith)
+      at true true true true q = (cc, refl)
+
+  pub triple-refused : (f : AlgebraFault) → Err f ≡ check-triple n i j k (Ok x) → Err f ≡ check-triple n i j k r
+  triple-refused f h = at (is-generator n i) (is-generator n j) (is-generator n k) (ltb i j && ltb j k) h
+    where
+      at : (a b c d : Bool) → Err f ≡ check a Generator 0 0 (check b Generator 0 0 (check c Generator 0 0 (check d NotRising 0 0 (Ok x))))
+          → Err f ≡ check a Generator 0 0 (check b Generator 0 0 (check c Generator 0 0 (check d NotRising 0 0 r)))
+      at false b c d q = let e : f ≡ Call (record { cause = Generator; a = 0; b = 0 }) = cc in ap Err e
+      at true false c d q = let e : f ≡ Call (record { cause = Generator; a = 0; b = 0 }) = cc in ap Err e
+      at true true false d q = let e : f ≡ Call (record { cause = Generator; a = 0; b = 0 }) = cc in ap Err e
+      at true true true false q = let e : f ≡ Call (record { cause = NotRising; a = 0; b = 0 }) = cc in ap Err e
+      at true true true true q = let z : _≡_ {A = ℕ} 0 1 = cc in absurd (omega arith)

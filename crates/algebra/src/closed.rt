@@ -36,3 +36,4 @@ impl<R, O> Closed<R, O> {
 }
 
 mod calls;
+mod overlap;
