@@ -58,7 +58,7 @@ fn run_steps<R: Ring, O: MonomialOrder>(
 }
 
 // Blanks a memory.
-pub(crate) fn blank_all(memory: &mut [Term])
+pub fn blank_all(memory: &mut [Term])
     ensures { λ _. ⌜ now (memory .exit) ≡ blanks (length (now (memory .entry))) ⌝ }
 {
     for x in memory.iter_mut() {
@@ -67,7 +67,7 @@ pub(crate) fn blank_all(memory: &mut [Term])
 }
 
 // The run of what was loaded; after a refusal both memories are blank.
-pub(crate) fn run<R: Ring, O: MonomialOrder>(
+pub fn run<R: Ring, O: MonomialOrder>(
     ring: &R,
     order: &O,
     table: &Table,

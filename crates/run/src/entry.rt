@@ -48,7 +48,7 @@ fn added<R: Ring, O: MonomialOrder>(
 }
 
 // The same, with the place of a fault.
-pub(crate) fn add_entry<R: Ring, O: MonomialOrder>(
+pub fn add_entry<R: Ring, O: MonomialOrder>(
     ring: &R,
     order: &O,
     work: &mut [Term],

@@ -36,7 +36,7 @@ pub(crate) fn clean_row(row: &Row) -> Row
 }
 
 // The row of the words of a and b, joined.
-pub(crate) fn joined_row(a: &Row, b: &Row) -> Option<Row>
+pub fn joined_row(a: &Row, b: &Row) -> Option<Row>
     ensures { λ r. ⌜ r ≡ rowed (letters (now (a .entry)) ++ letters (now (b .entry))) ⌝ }
 {
     let n = row_length(a);

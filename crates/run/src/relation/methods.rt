@@ -40,7 +40,7 @@ impl Relation {
     }
 
     // The relation of x_j x_i.
-    pub(crate) fn of_pair(table: &Table, j: u8, i: u8) -> &Relation
+    pub fn of_pair(table: &Table, j: u8, i: u8) -> &Relation
         requires { ⌜ 0 < j ⌝ ∗ ⌜ j ≤ 8 ⌝ ∗ ⌜ 0 < i ⌝ ∗ ⌜ i ≤ 8 ⌝ }
         ensures { λ r. ⌜ now r ≡ relation-of (now (table .entry)) j i ⌝ }
     {
