@@ -123,12 +123,13 @@ tail-ok m o n j i last p (u ∷ ts) rows h =
     all s rest t (inr a) = rest t a
 
 -- what an answered declare has checked
-pub record Declared (m : Coding) (o : OrderModel) (n j i c : ℕ) (tail : List Term) : Type 0 where
+pub record Declared (m : Coding) (o : OrderModel) (n : ℕ) (declared : List Bool) (j i c : ℕ) (tail : List Term) : Type 0 where
   pub pair : Pair n j i
   pub in-use : m .used c ≡ true
+  pub fresh : not (getD declared (pair-place j i) false) ≡ true
   pub terms : FullRows tail → (t : Term) → Among t tail → TailTerm m o n j i t
 
-pub declare-ok : (m : Coding) (o : OrderModel) (n : ℕ) (declared : List Bool) (j i c : ℕ) (tail : List Term) → declare-answer m o n declared j i c tail ≡ Ok tt → Declared m o n j i c tail
+pub declare-ok : (m : Coding) (o : OrderModel) (n : ℕ) (declared : List Bool) (j i c : ℕ) (tail : List Term) → declare-answer m o n declared j i c tail ≡ Ok tt → Declared m o n declared j i c tail
 unfolding declare-answer
 declare-ok m o n declared j i c tail h =
     let fresh = not (getD declared (pair-place j i) false) in
@@ -149,6 +150,7 @@ declare-ok m o n declared j i c tail h =
     record {
       pair = record { low = leb-true 1 i (and-parts (leb 1 i) (leb i n) (q .0) .0); falls = ltb-true i j (r .0); high = leb-true j n (and-parts (leb 1 j) (leb j n) (p .0) .1) };
       in-use = t .0;
+      fresh = s .0;
       terms = λ rows. tail-ok m o n j i None 1 tail rows (v .1);
     }
 
@@ -168,7 +170,7 @@ module _ (m : Coding) (o : OrderModel) (n : ℕ) (table table′ : List Relation
       ap (λ l. getD l (pair-place j′ i′) null) (h .table-is)
       ∙ getD-set-other table (pair-place j i) (pair-place j′ i′) (h .relation) null (λ e. k (pair-apart n j′ i′ j i (valid .few) p pair e))
 
-  pub declare-valid : Declared m o n j i c tail → FullRows tail → Valid m o n table′
+  pub declare-valid : Declared m o n declared j i c tail → FullRows tail → Valid m o n table′
   declare-valid d rows = record {
     few = valid .few;
     size = ap length (h .table-is) ∙ length-set table (pair-place j i) (h .relation) ∙ valid .size;

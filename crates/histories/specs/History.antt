@@ -88,3 +88,28 @@ pub data History (m : Coding) (o : OrderModel) : State → List (Calculation m) 
   product-refused : {n : ℕ} {table : List Relation} {v : Verdict} {cs : List (Calculation m)} {e : AlgebraFault} (mem : Memory) (ts us : List Term)
       → History m o (closed n table v) cs → product m o mem n table v ts us ≡ Err e
       → History m o (closed n table v) cs
+
+-- an answered declare: x_j x_i = c x_i x_j + tail
+pub record Declaration : Type 0 where
+  pub j : ℕ
+  pub i : ℕ
+  pub c : ℕ
+  pub tail : List Term
+
+-- the declares that were answered, the latest first
+abbrev pub declarations : {m : Coding} {o : OrderModel} {s : State} {cs : List (Calculation m)} → History m o s cs → List Declaration
+declarations (opens n c h) = []
+declarations (declares j i c tail h rows e d) = record { j = j; i = i; c = c; tail = tail } ∷ declarations h
+declarations (declare-refused j i c tail h e) = declarations h
+declarations (closes h) = declarations h
+declarations (overlaps mem i j k h e) = declarations h
+declarations (overlap-refused mem i j k h e) = declarations h
+declarations (decides mem h) = declarations h
+declarations (normalises mem h p e) = declarations h
+declarations (normalise-refused mem ts h e) = declarations h
+declarations (adds mem h p q e) = declarations h
+declarations (sum-refused mem ts us h e) = declarations h
+declarations (subtracts mem h p q e) = declarations h
+declarations (difference-refused mem ts us h e) = declarations h
+declarations (multiplies mem h p q e) = declarations h
+declarations (product-refused mem ts us h e) = declarations h

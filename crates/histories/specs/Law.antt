@@ -1,7 +1,7 @@
 -- The law of every history: what verdicts and answered calculations mean, and which relations they speak of.
 use mathlib.Core.Path.{_≡_}
-use mathlib.Core.Logic.{_↔_}
-use mathlib.Core.List.{List, []}
+use mathlib.Core.Logic.{_⊎_, _↔_}
+use mathlib.Core.List.{List, [], _∷_}
 use mathlib.Core.Bool.{Bool, true}
 use Prim.Native.Nat.{ℕ}
 use Rattle.std.specs.declared.result.Result.the-variants.{Ok}
@@ -20,8 +20,8 @@ use Rattle.relations.specs.Declare.{declare-answer}
 use Rattle.relations.specs.Presentations.{Opened, Declares}
 use Rattle.normal_forms.specs.Terms.{Among, sum-of}
 use Rattle.normal_forms.specs.Relations.{relations-of}
-use Rattle.histories.specs.State.{State, opened, verdict, relations, IsSound, IsDegenerate, IsDecided}
-use Rattle.histories.specs.History.{Calculation, History}
+use Rattle.histories.specs.State.{State, opened, count, table-of, verdict, relations, IsSound, IsDegenerate, IsDecided}
+use Rattle.histories.specs.History.{Calculation, History, Declaration, declarations}
 
 -- THE LAW
 
@@ -61,9 +61,30 @@ pub record Gives (m : Coding) (n : ℕ) (table table′ : List Relation) (j i c 
   pub other-factors : (j′ i′ : ℕ) → Pair n j′ i′ → ¬ ((j′ ≡ j) × (i′ ≡ i)) → relations-of m n table′ .factor j′ i′ ≡ relations-of m n table .factor j′ i′
   pub other-tails : (j′ i′ : ℕ) → Pair n j′ i′ → ¬ ((j′ ≡ j) × (i′ ≡ i)) → relations-of m n table′ .tail j′ i′ ≡ relations-of m n table .tail j′ i′
 
--- the relations are those that were declared: at first none is, then as each answered declare gives, and no other call changes the table
+-- one of the declarations is of the pair j, i
+abbrev pub Names : ℕ → ℕ → List Declaration → Type 0
+Names j i [] = ⊥
+Names j i (d ∷ ds) = ((d .j ≡ j) × (d .i ≡ i)) ⊎ Names j i ds
+
+-- no two are of one pair
+abbrev pub AllApart : List Declaration → Type 0
+AllApart [] = Unit {0}
+AllApart (d ∷ ds) = (¬ Names (d .j) (d .i) ds) × AllApart ds
+
+-- the relations are as these declarations say: a pair that none of them is of has the factor one and no tail
+pub record Presents (m : Coding) (n : ℕ) (table : List Relation) (ds : List Declaration) : Type 0 where
+  pub apart : AllApart ds
+  pub pairs : (d : Declaration) → Among d ds → Pair n (d .j) (d .i)
+  pub factors : (d : Declaration) → Among d ds → relations-of m n table .factor (d .j) (d .i) ≡ m .means (d .c)
+  pub tails : (d : Declaration) → Among d ds → relations-of m n table .tail (d .j) (d .i) ≡ sum-of m (d .tail)
+  pub other-factors : (j i : ℕ) → Pair n j i → ¬ Names j i ds → relations-of m n table .factor j i ≡ m .ring .one
+  pub other-tails : (j i : ℕ) → Pair n j i → ¬ Names j i ds → relations-of m n table .tail j i ≡ []
+
+-- the relations are those that were declared: at first none is, then as each answered declare gives; so after every history the one answered
+-- declare of a pair gives its relation
 pub record Relations-declared (m : Coding) (o : OrderModel) : Type 0 where
   pub at-first : (n : ℕ) (table : List Relation) (declared : List Bool) → is-count n ≡ true → Opened m table declared → Plain m n table
   pub then-declared : (n : ℕ) (table table′ : List Relation) (declared declared′ : List Bool) (cs : List (Calculation m)) (j i c : ℕ) (tail : List Term)
       → History m o (opened n table declared) cs → declare-answer m o n declared j i c tail ≡ Ok tt → Declares j i c tail table declared table′ declared′
       → Gives m n table table′ j i c tail
+  pub after-all : (s : State) (cs : List (Calculation m)) (h : History m o s cs) → Presents m (count s) (table-of s) (declarations h)
