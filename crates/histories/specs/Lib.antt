@@ -1,0 +1,4 @@
+pub mod State
+pub mod History
+pub mod Law
+pub mod Consequences
