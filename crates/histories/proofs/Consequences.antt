@@ -1,4 +1,4 @@
--- Decisions and calculations in an algebra whose table is valid.
+-- Tables are valid, and decisions and calculations in an algebra that has a valid one.
 use mathlib.Core.Path.{_≡_, sym, subst, _∙_}
 use mathlib.Core.List.{List, _++_}
 use Prim.Native.Nat.{ℕ}
@@ -22,7 +22,8 @@ use Rattle.normal_forms.proofs.Ends.{rewriting-ends}
 use Rattle.normal_forms.proofs.Letters.{entries-over}
 use Rattle.normal_forms.proofs.Running.{calculates}
 use Rattle.normal_forms.proofs.Consequences.{terms-congruent}
-use Rattle.histories.specs.Consequences.{DecidesRightly, TheForm, Calculates, Decisions-right, Calculations-right}
+use Rattle.histories.specs.Consequences.{DecidesRightly, TheForm, Calculates, Decisions-right, Calculations-right, Tables-valid}
+use Rattle.histories.proofs.Declaring.{opened-valid, declare-ok, declare-valid}
 use Rattle.histories.proofs.Deciding.{decided}
 use Rattle.histories.proofs.Keeping.{normalise-ok, sum-ok, difference-ok, product-ok}
 
@@ -48,4 +49,12 @@ calculations-right m o n table valid mem v = record {
   added = λ ts us r h. let k = sum-ok m o mem n table v ts us r h in the-form m o n table valid mem (k .entries) (sum-of m ts ++ sum-of m us) r (k .stand) (k .ran);
   subtracted = λ ts us r h. let k = difference-ok m o mem n table v ts us r h in the-form m o n table valid mem (k .entries) (sum-of m ts ++ negate (sum-of m us)) r (k .stand) (k .ran);
   multiplied = λ ts us r h. let k = product-ok m o mem n table v ts us r h in the-form m o n table valid mem (k .entries) (times (sum-of m ts) (sum-of m us)) r (k .stand) (k .ran);
+}
+
+pub tables-valid : (m : Coding) (o : OrderModel) → Tables-valid m o
+tables-valid m o = record {
+  at-first = opened-valid m o;
+  then-declared = λ n table table′ declared declared′ j i c tail valid rows e d.
+      let x = declare-ok m o n declared j i c tail e in
+      declare-valid m o n table table′ declared declared′ j i c tail valid d (x .pair) x rows;
 }
