@@ -2,3 +2,5 @@ pub mod Faults
 pub mod Overlaps
 pub mod Calls
 pub mod Decide
+pub mod Verdicts
+pub mod Meaning

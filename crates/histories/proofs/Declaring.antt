@@ -35,7 +35,7 @@ use Rattle.relations.specs.Presentations.{Opened, Declares}
 use Rattle.normal_forms.specs.Terms.{Among}
 use Rattle.normal_forms.specs.Relations.{TailTerm, ValidRelation, Valid}
 use Rattle.histories.specs.History.{FullRows}
-use Rattle.histories.proofs.Checks.{err-not-ok, letters-over}
+use Rattle.algebra.proofs.Scanning.{err-not-ok, letters-over}
 
 -- PLACES IN THE TABLE
 

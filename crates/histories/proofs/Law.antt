@@ -21,7 +21,8 @@ use Rattle.normal_forms.specs.Terms.{Among, sum-of}
 use Rattle.normal_forms.specs.Relations.{relations-of, Ends}
 use Rattle.normal_forms.proofs.Ends.{rewriting-ends}
 use Rattle.normal_forms.proofs.Consequences.{tell-apart}
-use Rattle.histories.specs.State.{State, count, table-of, verdict, relations, IsSound, IsDegenerate, IsDecided}
+use Rattle.algebra.specs.Verdicts.{IsSound, IsDegenerate, IsDecided}
+use Rattle.histories.specs.State.{State, count, table-of, verdict, relations}
 use Rattle.histories.specs.History.{Calculation, History}
 use Rattle.histories.specs.Law.{Arrives, Faithful, Histories-faithful}
 use Rattle.histories.proofs.Keeping.{Kept, keeps, tails, resolves, calculated-congruent}

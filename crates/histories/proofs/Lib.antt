@@ -1,9 +1,4 @@
-pub mod Checks
-pub mod Entries
-pub mod Triples
-pub mod Deciding
 pub mod Declaring
 pub mod Keeping
 pub mod Law
 pub mod Relating
-pub mod Consequences

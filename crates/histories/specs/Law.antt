@@ -20,7 +20,8 @@ use Rattle.relations.specs.Declare.{declare-answer}
 use Rattle.relations.specs.Presentations.{Opened, Declares}
 use Rattle.normal_forms.specs.Terms.{Among, sum-of}
 use Rattle.normal_forms.specs.Relations.{relations-of}
-use Rattle.histories.specs.State.{State, opened, count, table-of, verdict, relations, IsSound, IsDegenerate, IsDecided}
+use Rattle.algebra.specs.Verdicts.{IsSound, IsDegenerate, IsDecided}
+use Rattle.histories.specs.State.{State, opened, count, table-of, verdict, relations}
 use Rattle.histories.specs.History.{Calculation, History, Declaration, declarations}
 
 -- THE LAW

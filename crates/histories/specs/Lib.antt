@@ -1,4 +1,3 @@
 pub mod State
 pub mod History
 pub mod Law
-pub mod Consequences

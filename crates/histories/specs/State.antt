@@ -6,7 +6,7 @@ use Rattle.theory.specs.Relations.{Relations}
 use Rattle.coefficients.specs.Coding.{Coding}
 use Rattle.run.specs.declared.relation.Relation.{Relation}
 use Rattle.algebra.specs.declared.verdict.Verdict.{Verdict}
-use Rattle.algebra.specs.declared.verdict.Verdict.the-variants.{Undecided, Sound, Degenerate}
+use Rattle.algebra.specs.declared.verdict.Verdict.the-variants.{Undecided}
 use Rattle.normal_forms.specs.Relations.{relations-of}
 
 -- open: how many generators, the relation of each pair, which pairs were declared; closed: the verdict in the place of the last
@@ -30,18 +30,3 @@ verdict (closed n table v) = v
 -- the relations of an algebra
 abbrev pub relations : (m : Coding) → State → Relations (m .ring)
 relations m s = relations-of m (count s) (table-of s)
-
-abbrev pub IsSound : Verdict → Type 0
-IsSound Undecided = ⊥
-IsSound Sound = Unit {0}
-IsSound (Degenerate i j k) = ⊥
-
-abbrev pub IsDegenerate : Verdict → Type 0
-IsDegenerate Undecided = ⊥
-IsDegenerate Sound = ⊥
-IsDegenerate (Degenerate i j k) = Unit {0}
-
-abbrev pub IsDecided : Verdict → Type 0
-IsDecided Undecided = ⊥
-IsDecided Sound = Unit {0}
-IsDecided (Degenerate i j k) = Unit {0}

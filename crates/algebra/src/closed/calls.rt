@@ -1,9 +1,14 @@
 // Calculations in a closed algebra. Both memories may hold anything and have any size. After an answer the result memory holds the terms and
 // then blanks, after a refusal blanks; work memory is blank after both.
 ghost use mathlib.Core.Path.{_≡_};
+ghost use mathlib.Core.List.{_++_};
 ghost use lib.ListN.{length};
 ghost use Rattle.std.specs.declared.result.Result.the-variants.{Ok, Err};
-ghost use Rattle.algebra.specs.Calls.{Answered, when-sound, scan-first, scan-second, normalise as normal-form, sum as sum-of, difference as difference-of, product as product-of};
+ghost use Rattle.algebra.specs.Calls.{Answered, when-sound, scan-first, scan-second, normalise as normal-form, sum as sum-form, difference as difference-form, product as product-form};
+ghost use Rattle.algebra.specs.Meaning.{Formed};
+ghost use Rattle.normal_forms.specs.Terms.{sum-of};
+ghost use Rattle.normal_forms.specs.Relations.{Valid};
+ghost use Rattle.theory.specs.FreeSum.{negate, times};
 use crate::closed::Closed;
 use crate::fault::AlgebraFault;
 use crate::fault::AlgebraFaultFromRun;
@@ -77,7 +82,8 @@ impl<R: Ring, O: MonomialOrder> Closed<R, O> {
         work: &mut [Term],
         out: &mut [Term],
     ) -> Result<(usize, u64), AlgebraFault>
-        ensures { λ r. ⌜ Answered (normal-form (R·Ring .model (now (self .entry) .ring)) (O·MonomialOrder .model (now (self .entry) .order)) (record { work = length (now (work .entry)); result = length (now (out .entry)) }) (now (self .entry) .count .n) (now (self .entry) .table) (now (self .entry) .verdict) (now (list .entry))) (now (work .exit)) (now (out .exit)) r ⌝ }
+        ensures answer { λ r. ⌜ Answered (normal-form (R·Ring .model (now (self .entry) .ring)) (O·MonomialOrder .model (now (self .entry) .order)) (record { work = length (now (work .entry)); result = length (now (out .entry)) }) (now (self .entry) .count .n) (now (self .entry) .table) (now (self .entry) .verdict) (now (list .entry))) (now (work .exit)) (now (out .exit)) r ⌝ }
+        ensures meaning { λ r. ⌜ (Valid (R·Ring .model (now (self .entry) .ring)) (O·MonomialOrder .model (now (self .entry) .order)) (now (self .entry) .count .n) (now (self .entry) .table) → Formed (R·Ring .model (now (self .entry) .ring)) (now (self .entry) .count .n) (now (self .entry) .table) (sum-of (R·Ring .model (now (self .entry) .ring)) (now (list .entry))) (now (out .exit)) r) ⌝ }
     {
         match self.check_one(list) {
             Ok(_) => {
@@ -96,7 +102,8 @@ impl<R: Ring, O: MonomialOrder> Closed<R, O> {
         work: &mut [Term],
         out: &mut [Term],
     ) -> Result<(usize, u64), AlgebraFault>
-        ensures { λ r. ⌜ Answered (sum-of (R·Ring .model (now (self .entry) .ring)) (O·MonomialOrder .model (now (self .entry) .order)) (record { work = length (now (work .entry)); result = length (now (out .entry)) }) (now (self .entry) .count .n) (now (self .entry) .table) (now (self .entry) .verdict) (now (first .entry)) (now (second .entry))) (now (work .exit)) (now (out .exit)) r ⌝ }
+        ensures answer { λ r. ⌜ Answered (sum-form (R·Ring .model (now (self .entry) .ring)) (O·MonomialOrder .model (now (self .entry) .order)) (record { work = length (now (work .entry)); result = length (now (out .entry)) }) (now (self .entry) .count .n) (now (self .entry) .table) (now (self .entry) .verdict) (now (first .entry)) (now (second .entry))) (now (work .exit)) (now (out .exit)) r ⌝ }
+        ensures meaning { λ r. ⌜ (Valid (R·Ring .model (now (self .entry) .ring)) (O·MonomialOrder .model (now (self .entry) .order)) (now (self .entry) .count .n) (now (self .entry) .table) → Formed (R·Ring .model (now (self .entry) .ring)) (now (self .entry) .count .n) (now (self .entry) .table) (sum-of (R·Ring .model (now (self .entry) .ring)) (now (first .entry)) ++ sum-of (R·Ring .model (now (self .entry) .ring)) (now (second .entry))) (now (out .exit)) r) ⌝ }
     {
         match self.check_two(first, second) {
             Ok(_) => {
@@ -123,7 +130,8 @@ impl<R: Ring, O: MonomialOrder> Closed<R, O> {
         work: &mut [Term],
         out: &mut [Term],
     ) -> Result<(usize, u64), AlgebraFault>
-        ensures { λ r. ⌜ Answered (difference-of (R·Ring .model (now (self .entry) .ring)) (O·MonomialOrder .model (now (self .entry) .order)) (record { work = length (now (work .entry)); result = length (now (out .entry)) }) (now (self .entry) .count .n) (now (self .entry) .table) (now (self .entry) .verdict) (now (first .entry)) (now (second .entry))) (now (work .exit)) (now (out .exit)) r ⌝ }
+        ensures answer { λ r. ⌜ Answered (difference-form (R·Ring .model (now (self .entry) .ring)) (O·MonomialOrder .model (now (self .entry) .order)) (record { work = length (now (work .entry)); result = length (now (out .entry)) }) (now (self .entry) .count .n) (now (self .entry) .table) (now (self .entry) .verdict) (now (first .entry)) (now (second .entry))) (now (work .exit)) (now (out .exit)) r ⌝ }
+        ensures meaning { λ r. ⌜ (Valid (R·Ring .model (now (self .entry) .ring)) (O·MonomialOrder .model (now (self .entry) .order)) (now (self .entry) .count .n) (now (self .entry) .table) → Formed (R·Ring .model (now (self .entry) .ring)) (now (self .entry) .count .n) (now (self .entry) .table) (sum-of (R·Ring .model (now (self .entry) .ring)) (now (first .entry)) ++ negate (sum-of (R·Ring .model (now (self .entry) .ring)) (now (second .entry)))) (now (out .exit)) r) ⌝ }
     {
         match self.check_two(first, second) {
             Ok(_) => {
@@ -150,7 +158,8 @@ impl<R: Ring, O: MonomialOrder> Closed<R, O> {
         work: &mut [Term],
         out: &mut [Term],
     ) -> Result<(usize, u64), AlgebraFault>
-        ensures { λ r. ⌜ Answered (product-of (R·Ring .model (now (self .entry) .ring)) (O·MonomialOrder .model (now (self .entry) .order)) (record { work = length (now (work .entry)); result = length (now (out .entry)) }) (now (self .entry) .count .n) (now (self .entry) .table) (now (self .entry) .verdict) (now (first .entry)) (now (second .entry))) (now (work .exit)) (now (out .exit)) r ⌝ }
+        ensures answer { λ r. ⌜ Answered (product-form (R·Ring .model (now (self .entry) .ring)) (O·MonomialOrder .model (now (self .entry) .order)) (record { work = length (now (work .entry)); result = length (now (out .entry)) }) (now (self .entry) .count .n) (now (self .entry) .table) (now (self .entry) .verdict) (now (first .entry)) (now (second .entry))) (now (work .exit)) (now (out .exit)) r ⌝ }
+        ensures meaning { λ r. ⌜ (Valid (R·Ring .model (now (self .entry) .ring)) (O·MonomialOrder .model (now (self .entry) .order)) (now (self .entry) .count .n) (now (self .entry) .table) → Formed (R·Ring .model (now (self .entry) .ring)) (now (self .entry) .count .n) (now (self .entry) .table) (times (sum-of (R·Ring .model (now (self .entry) .ring)) (now (first .entry))) (sum-of (R·Ring .model (now (self .entry) .ring)) (now (second .entry)))) (now (out .exit)) r) ⌝ }
     {
         match self.check_two(first, second) {
             Ok(_) => {

@@ -18,22 +18,22 @@ use Rattle.run.specs.declared.fault.RunFault.{RunFault}
 use Rattle.run.specs.declared.relation.Relation.{Relation}
 use Rattle.run.specs.Step.{Outcome}
 use Rattle.run.specs.Calls.{Memory}
 use Rattle.algebra.specs.declared.fault.AlgebraFault.the-variants.{Run}
 use Rattle.algebra.specs.declared.fault.DecideFault.{DecideFault}
 use Rattle.algebra.specs.declared.verdict.Verdict.{Verdict}
 use Rattle.algebra.specs.declared.verdict.Verdict.the-variants.{Sound, Degenerate}
 use Rattle.algebra.specs.Overlaps.{overlap-entries, overlap-run}
 use Rattle.algebra.specs.Decide.{Triple, triples, after-terms, after-overlap, decide-over}
 use Rattle.normal_forms.specs.Terms.{Among}
 use Rattle.normal_forms.specs.Relations.{relations-of, Ends, Valid}
 use Rattle.normal_forms.proofs.Ends.{tails-over, rewriting-ends}
 use Rattle.normal_forms.proofs.Loads.{ok-injective}
 use Rattle.normal_forms.proofs.Running.{calculates}
 use Rattle.normal_forms.proofs.Consequences.{tell-apart}
-use Rattle.histories.specs.State.{IsSound, IsDegenerate}
-use Rattle.histories.proofs.Checks.{err-not-ok}
-use Rattle.histories.proofs.Entries.{overlap-stand}
-use Rattle.histories.proofs.Triples.{Rises, triples-all, triples-rise}
+use Rattle.algebra.specs.Verdicts.{IsSound, IsDegenerate, IsDecided}
+use Rattle.algebra.proofs.Scanning.{err-not-ok}
+use Rattle.algebra.proofs.Standing.{overlap-stand}
+use Rattle.algebra.proofs.Triples.{Rises, triples-all, triples-rise}
 
 pub record Decides (m : Coding) (n : ℕ) (table : List Relation) (v : Verdict) : Type 0 where
   pub sound : IsSound v → Basis (relations-of m n table)
@@ -95,3 +95,16 @@ module _ (m : Coding) (o : OrderModel) (n : ℕ) (table : List Relation) (valid 
         sound = λ s. basis-of-resolves P ends tails (λ i j k t. q .all s (record { i = i; j = j; k = k }) (triples-all n (record { i = i; j = j; k = k }) t));
         degenerate = λ d b. let t = q .one d in t .2 (resolves-of-basis P ends tails b (t .0 .i) (t .0 .j) (t .0 .k) (t .1));
       }
+
+-- the overlaps answer with a verdict that decides
+pub verdict-decided : (m : Coding) (o : OrderModel) (mem : Memory) (table : List Relation) (ts : List Triple) (v : Verdict) → decide-over m o mem table ts ≡ Ok v → IsDecided v
+verdict-decided m o mem table [] v h = subst IsDecided (ok-injective Sound v h) tt
+verdict-decided m o mem table (t ∷ ts) v h = at (verdict-decided m o mem table ts v) (overlap-run m o mem table (t .i) (t .j) (t .k)) h
+  where
+    by-terms : (decide-over m o mem table ts ≡ Ok v → IsDecided v) → (xs : List Term) → after-terms t xs (decide-over m o mem table ts) ≡ Ok v → IsDecided v
+    by-terms rest [] h = rest h
+    by-terms rest (x ∷ xs) h = subst IsDecided (ok-injective (Degenerate (t .i) (t .j) (t .k)) v h) tt
+
+    at : (decide-over m o mem table ts ≡ Ok v → IsDecided v) → (c : Result Outcome RunFault) → after-overlap t c (decide-over m o mem table ts) ≡ Ok v → IsDecided v
+    at rest (Ok r) h = by-terms rest (r .terms) h
+    at rest (Err f) h = absurd (err-not-ok (record { overlap = Run f; i = t .i; j = t .j; k = t .k }) v h)

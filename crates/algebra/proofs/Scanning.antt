@@ -16,16 +16,16 @@ use Rattle.words.specs.Rows.{is-row}
 use Rattle.words.specs.declared.term.Term.{Term}
 use Rattle.run.specs.declared.fault.RunFault.{RunFault}
 use Rattle.relations.specs.Declare.{letters-to, is-word}
 use Rattle.algebra.specs.declared.fault.CallCause.{CallCause}
 use Rattle.algebra.specs.declared.fault.CallCause.the-variants as cause
 use Rattle.algebra.specs.declared.fault.AlgebraFault.{AlgebraFault}
 use Rattle.algebra.specs.declared.fault.AlgebraFault.the-variants.{Call, Run}
 use Rattle.algebra.specs.declared.verdict.Verdict.{Verdict}
 use Rattle.algebra.specs.declared.verdict.Verdict.the-variants.{Undecided, Sound, Degenerate}
 use Rattle.algebra.specs.Overlaps.{check, by-run}
 use Rattle.algebra.specs.Calls.{when-sound, scan-first, scan-second}
 use Rattle.normal_forms.proofs.Loads.{ok-injective}
-use Rattle.histories.specs.State.{IsSound}
+use Rattle.algebra.specs.Verdicts.{IsSound}
 
 pub err-not-ok : {A E : Type 0} (e : E) (y : A) → _≡_ {A = Result A E} (Err e) (Ok y) → ⊥
 err-not-ok e y h = let z : _≡_ {A = ℕ} 0 1 = cc in omega arith

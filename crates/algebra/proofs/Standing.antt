@@ -16,14 +16,14 @@ use Rattle.words.specs.declared.term.Term.{Term}
 use Rattle.run.specs.declared.relation.Relation.{Relation}
 use Rattle.run.specs.Relations.{relation-of, tail-of}
 use Rattle.run.specs.Calls.{first-entries, second-entries, negated-entries, joined-entries, product-entries}
 use Rattle.algebra.specs.Overlaps.{first-tail, second-tail, first-half, second-half, overlap-entries}
 use Rattle.normal_forms.specs.Terms.{Among, sum-of}
 use Rattle.normal_forms.specs.Relations.{relations-of, TailTerm, Valid}
 use Rattle.normal_forms.specs.Entries.{StandFor}
 use Rattle.normal_forms.proofs.Codes.{product-means, negative-means}
 use Rattle.normal_forms.proofs.Calls.{own-means, stand-append}
 use Rattle.normal_forms.proofs.Running.{rhs-is}
-use Rattle.histories.proofs.Checks.{Loadable, AllLoadable}
+use Rattle.algebra.proofs.Scanning.{Loadable, AllLoadable}
 
 -- CALCULATIONS
 
