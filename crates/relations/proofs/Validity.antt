@@ -1,13 +1,13 @@
 -- The table of an algebra that was just opened is valid, and an accepted declaration keeps it valid.
 use mathlib.Core.Path.{_≡_, refl, sym, _∙_, ap, subst}
-use mathlib.Core.Logic.{_⊎_, inl, inr}
+use mathlib.Core.Logic.{inl, inr}
 use mathlib.Core.List.{List, [], _∷_}
 use mathlib.Core.Bool.{Bool, true, false, cond, _&&_, not}
 use Prim.Native.Nat.{ℕ, _+_, _≤_, _<_}
 use native.Mathlib.Omega.{arith}
 use native.Mathlib.Decide.{ℕ-discrete}
 use lib.Dec.{leb, ltb, eqb}
-use lib.ListN.{length, getD, set, replicate, length-set, length-replicate, getD-replicate}
+use lib.ListN.{length, getD, set, length-set, length-replicate, getD-replicate}
 use lib.Seq.{getD-set-same, getD-set-other}
 use Rattle.std.proofs.shelf.Tests.{and-parts, ltb-true, leb-true}
 use Rattle.std.specs.declared.cmp.Ordering.{Ordering}
@@ -15,7 +15,7 @@ use Rattle.std.specs.declared.cmp.Ordering.the-variants.{Less, Equal, Greater}
 use Rattle.std.specs.declared.option.Option.{Option}
 use Rattle.std.specs.declared.option.Option.the-variants.{Some, None}
 use Rattle.std.specs.declared.result.Result.{Result}
-use Rattle.std.specs.declared.result.Result.the-variants.{Ok, Err}
+use Rattle.std.specs.declared.result.Result.the-variants.{Ok}
 use Rattle.theory.specs.Relations.{Pair}
 use Rattle.theory.specs.Words.{Over}
 use Rattle.coefficients.specs.Coding.{Coding}
@@ -26,13 +26,13 @@ use Rattle.words.specs.Inversions.{standard}
 use Rattle.words.specs.Rows.{is-row}
 use Rattle.words.specs.declared.term.Term.{Term}
 use Rattle.run.specs.declared.relation.Relation.{Relation}
-use Rattle.run.specs.Relations.{pair-place, null, relation-of, tail-of}
+use Rattle.run.specs.Relations.{pair-place, null, relation-of}
 use Rattle.normal_forms.specs.Terms.{Among}
 use Rattle.normal_forms.specs.Relations.{TailTerm, ValidRelation, Valid}
 use Rattle.relations.specs.declared.fault.DeclareCause.{DeclareCause}
 use Rattle.relations.specs.declared.fault.DeclareCause.the-variants.{Generator, NotRising, AlreadyDeclared, Coefficient, FactorZero, TailSize, TailNotKept, TailNotBefore}
 use Rattle.relations.specs.declared.fault.DeclareFault.{DeclareFault}
-use Rattle.relations.specs.Declare.{passed, check, is-generator, letters-to, is-word, is-less, below-last, image-before, check-term, check-tail, check-pair, check-factor, declare-answer, AllFull}
+use Rattle.relations.specs.Declare.{passed, check, is-generator, letters-to, is-word, is-less, below-last, image-before, check-tail, declare-answer, AllFull}
 use Rattle.relations.specs.Presentations.{Says, Plain, Declares}
 
 -- a check that was passed

@@ -1,4 +1,4 @@
-use mathlib.Core.Path.{_≡_, refl, ap, sym}
+use mathlib.Core.Path.{refl, ap, sym}
 use mathlib.Core.Bool.{true}
 use lib.ListN.{set}
 use Rattle.relations.specs.Presentations.{Declares}
