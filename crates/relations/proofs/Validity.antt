@@ -1,13 +1,13 @@
--- The table of an algebra that was just opened is valid, and a declaration that passed its checks keeps it valid.
+-- The table of an algebra that was just opened is valid, and an accepted declaration keeps it valid.
 use mathlib.Core.Path.{_≡_, refl, sym, _∙_, ap, subst}
-use mathlib.Core.Logic.{_⊎_, inl, inr}
+use mathlib.Core.Logic.{inl, inr}
 use mathlib.Core.List.{List, [], _∷_}
 use mathlib.Core.Bool.{Bool, true, false, cond, _&&_, not}
 use Prim.Native.Nat.{ℕ, _+_, _≤_, _<_}
 use native.Mathlib.Omega.{arith}
 use native.Mathlib.Decide.{ℕ-discrete}
 use lib.Dec.{leb, ltb, eqb}
-use lib.ListN.{length, getD, set, replicate, length-set, length-replicate, getD-replicate}
+use lib.ListN.{length, getD, set, length-set, length-replicate, getD-replicate}
 use lib.Seq.{getD-set-same, getD-set-other}
 use Rattle.std.proofs.shelf.Tests.{and-parts, ltb-true, leb-true}
 use Rattle.std.specs.declared.cmp.Ordering.{Ordering}
@@ -15,7 +15,7 @@ use Rattle.std.specs.declared.cmp.Ordering.the-variants.{Less, Equal, Greater}
 use Rattle.std.specs.declared.option.Option.{Option}
 use Rattle.std.specs.declared.option.Option.the-variants.{Some, None}
 use Rattle.std.specs.declared.result.Result.{Result}
-use Rattle.std.specs.declared.result.Result.the-variants.{Ok, Err}
+use Rattle.std.specs.declared.result.Result.the-variants.{Ok}
 use Rattle.theory.specs.Relations.{Pair}
 use Rattle.theory.specs.Words.{Over}
 use Rattle.coefficients.specs.Coding.{Coding}
@@ -26,14 +26,14 @@ use Rattle.words.specs.Inversions.{standard}
 use Rattle.words.specs.Rows.{is-row}
 use Rattle.words.specs.declared.term.Term.{Term}
 use Rattle.run.specs.declared.relation.Relation.{Relation}
-use Rattle.run.specs.Relations.{pair-place, null, relation-of, tail-of}
+use Rattle.run.specs.Relations.{pair-place, null, relation-of}
 use Rattle.normal_forms.specs.Terms.{Among}
 use Rattle.normal_forms.specs.Relations.{TailTerm, ValidRelation, Valid}
 use Rattle.relations.specs.declared.fault.DeclareCause.{DeclareCause}
 use Rattle.relations.specs.declared.fault.DeclareCause.the-variants.{Generator, NotRising, AlreadyDeclared, Coefficient, FactorZero, TailSize, TailNotKept, TailNotBefore}
 use Rattle.relations.specs.declared.fault.DeclareFault.{DeclareFault}
-use Rattle.relations.specs.Declare.{passed, check, is-generator, letters-to, is-word, is-less, below-last, image-before, check-term, check-tail, check-pair, check-factor, declare-answer, AllFull}
-use Rattle.relations.specs.Presentations.{Says, Plain, Accepted}
+use Rattle.relations.specs.Declare.{passed, check, is-generator, letters-to, is-word, is-less, below-last, image-before, check-tail, declare-answer, AllFull}
+use Rattle.relations.specs.Presentations.{Says, Plain, Declares}
 
 -- a check that was passed
 check-ok : {A : Type 0} (b : Bool) (f : DeclareCause) (p : ℕ) (r : Result A DeclareFault) (x : A) → check b f p r ≡ Ok x → (b ≡ true) × (r ≡ Ok x)
@@ -83,10 +83,15 @@ module _ (m : Coding) (o : OrderModel) (n j i : ℕ) where
       all s rest u (inl e) = subst (TailTerm m o n j i) (sym e) s
       all s rest u (inr a) = rest u a
 
-  -- the relation of a declaration that passed its checks
-  declared-valid : (d : List Bool) (c : ℕ) (tail : List Term) (p : ℕ) (r : Relation) → Accepted m o n d j i c tail p r → ValidRelation m o n j i r
+  -- what an accepted declaration has seen to
+  pub record Seen (c : ℕ) (tail : List Term) : Type 0 where
+    pub pair : Pair n j i
+    pub factor : m .used c ≡ true
+    pub tail-checked : check-tail m o n j i None 1 tail passed ≡ passed
+
+  pub seen : (d : List Bool) (c : ℕ) (tail : List Term) → declare-answer m o n d j i c tail ≡ passed → Seen c tail
   unfolding declare-answer
-  declared-valid d c tail p r a =
+  seen d c tail h =
       let e₇ = check-tail m o n j i None 1 tail passed in
       let e₆ = check (leb (length tail) 8) TailSize 0 e₇ in
       let e₅ = check (not (eqb c 0)) FactorZero 0 e₆ in
@@ -94,7 +99,7 @@ module _ (m : Coding) (o : OrderModel) (n j i : ℕ) where
       let e₃ = check (not (getD d (pair-place j i) false)) AlreadyDeclared 0 e₄ in
       let e₂ = check (ltb i j) NotRising 0 e₃ in
       let e₁ = check (is-generator n i) Generator 0 e₂ in
-      let q₁ = check-ok (is-generator n j) Generator 0 e₁ tt (a .answer) in
+      let q₁ = check-ok (is-generator n j) Generator 0 e₁ tt h in
       let q₂ = check-ok (is-generator n i) Generator 0 e₂ tt (q₁ .1) in
       let q₃ = check-ok (ltb i j) NotRising 0 e₃ tt (q₂ .1) in
       let q₄ = check-ok (not (getD d (pair-place j i) false)) AlreadyDeclared 0 e₄ tt (q₃ .1) in
@@ -102,9 +107,19 @@ module _ (m : Coding) (o : OrderModel) (n j i : ℕ) where
       let q₆ = check-ok (not (eqb c 0)) FactorZero 0 e₆ tt (q₅ .1) in
       let q₇ = check-ok (leb (length tail) 8) TailSize 0 e₇ tt (q₆ .1) in
       record {
-        factor = ap (m .used) (a .says .factor) ∙ q₅ .0;
-        tail = λ t b. tail-ok None 1 tail (q₇ .1) (a .full) t (subst (Among t) (a .says .tail) b);
+        pair = record {
+          low = leb-true 1 i (and-parts (leb 1 i) (leb i n) (q₂ .0) .0);
+          falls = ltb-true i j (q₃ .0);
+          high = leb-true j n (and-parts (leb 1 j) (leb j n) (q₁ .0) .1);
+        };
+        factor = q₅ .0;
+        tail-checked = q₇ .1;
       }
+
+  -- the relation of an accepted declaration
+  declared-valid : (c : ℕ) (tail : List Term) (r : Relation) → Seen c tail → AllFull tail → Says r c tail → ValidRelation m o n j i r
+  declared-valid c tail r s f a =
+      record { factor = ap (m .used) (a .factor) ∙ s .factor; tail = λ t b. tail-ok None 1 tail (s .tail-checked) f t (subst (Among t) (a .tail) b) }
 
 pub opened-valid : (m : Coding) (o : OrderModel) (n : ℕ) (table : List Relation) → n ≤ letter-count → Plain (m .one) table → Valid m o n table
 unfolding relation-of
@@ -121,45 +136,54 @@ opened-valid m o n table h p =
     plain : (j i : ℕ) → ValidRelation m o n j i (p .relation)
     plain j i = record { factor = ap (m .used) (p .says .factor) ∙ m .one-code .in-use; tail = λ t a. absurd (subst (Among t) (p .says .tail) a) }
 
-pub declaring-keeps : (m : Coding) (o : OrderModel) (n : ℕ) (table : List Relation) (d : List Bool) (j i c : ℕ) (tail : List Term) (p : ℕ) (r : Relation)
-    → Accepted m o n d j i c tail p r → Valid m o n table → Valid m o n (set table p r)
-unfolding relation-of
-declaring-keeps m o n table d j i c tail p r a v =
-    record { few = v .few; size = length-set table p r ∙ v .size; pairs = λ j′ i′ f. at j′ i′ f (ℕ-discrete (pair-place j′ i′) p) }
-  where
-    at : (j′ i′ : ℕ) → Pair n j′ i′ → Dec (pair-place j′ i′ ≡ p) → ValidRelation m o n j′ i′ (getD (set table p r) (pair-place j′ i′) null)
-    at j′ i′ f (no k) = subst (ValidRelation m o n j′ i′) (sym (getD-set-other table p (pair-place j′ i′) r null k)) (v .pairs j′ i′ f)
-    at j′ i′ f (yes e) =
-        subst (ValidRelation m o n j′ i′) (sym (ap (λ k. getD (set table p r) k null) e ∙ getD-set-same table p r null inside))
-        (subst (λ x. ValidRelation m o n x i′ r) (sym same-j) (subst (λ x. ValidRelation m o n j x r) (sym same-i) (declared-valid m o n j i d c tail p r a)))
-      where
-        few : n ≤ 8
-        few = v .few
+module _ (m : Coding) (o : OrderModel) (n j i c : ℕ) (tail : List Term) where
+  set-valid : (table : List Relation) (r : Relation) → Seen m o n j i c tail → ValidRelation m o n j i r → Valid m o n table → Valid m o n (set table (pair-place j i) r)
+  unfolding relation-of
+  set-valid table r s w v = record {
+    few = v .few;
+    size = length-set table (pair-place j i) r ∙ v .size;
+    pairs = λ j′ i′ f. at j′ i′ f (ℕ-discrete (pair-place j′ i′) (pair-place j i));
+  }
+    where
+      at : (j′ i′ : ℕ) → Pair n j′ i′ → Dec (pair-place j′ i′ ≡ pair-place j i) → ValidRelation m o n j′ i′ (getD (set table (pair-place j i) r) (pair-place j′ i′) null)
+      at j′ i′ f (no k) = subst (ValidRelation m o n j′ i′) (sym (getD-set-other table (pair-place j i) (pair-place j′ i′) r null k)) (v .pairs j′ i′ f)
+      at j′ i′ f (yes e) =
+          subst (ValidRelation m o n j′ i′) (sym (ap (λ k. getD (set table (pair-place j i) r) k null) e ∙ getD-set-same table (pair-place j i) r null inside))
+          (subst (λ x. ValidRelation m o n x i′ r) (sym same-j) (subst (λ x. ValidRelation m o n j x r) (sym same-i) w))
+        where
+          few : n ≤ 8
+          few = v .few
 
-        inside : p < length table
-        inside = let w = a .within in let s = v .size in omega arith
+          inside : pair-place j i < length table
+          inside =
+              let b₀ = s .pair .low in
+              let b₁ = s .pair .falls in
+              let b₂ = s .pair .high in
+              let k = few in
+              let z = v .size in
+              omega arith
 
-        places : pair-place j′ i′ ≡ pair-place j i
-        places = e ∙ a .place
+          same-j : j′ ≡ j
+          same-j =
+              let a₀ = f .low in
+              let a₁ = f .falls in
+              let a₂ = f .high in
+              let b₀ = s .pair .low in
+              let b₁ = s .pair .falls in
+              let b₂ = s .pair .high in
+              let k = few in
+              omega arith
 
-        same-j : j′ ≡ j
-        same-j =
-            let a₀ = f .low in
-            let a₁ = f .falls in
-            let a₂ = f .high in
-            let b₀ = a .pair .low in
-            let b₁ = a .pair .falls in
-            let b₂ = a .pair .high in
-            let q = places in
-            let k = few in
-            omega arith
+          same-i : i′ ≡ i
+          same-i =
+              let a₀ = f .low in
+              let b₀ = s .pair .low in
+              let k = same-j in
+              omega arith
 
-        same-i : i′ ≡ i
-        same-i =
-            let a₀ = f .low in
-            let a₁ = f .falls in
-            let b₀ = a .pair .low in
-            let b₁ = a .pair .falls in
-            let q = places in
-            let s = same-j in
-            omega arith
+  -- an accepted declaration keeps the table valid
+  pub declares-valid : (table : List Relation) (d : List Bool) (table′ : List Relation) (d′ : List Bool) → declare-answer m o n d j i c tail ≡ passed
+      → Declares j i c tail table d table′ d′ → Valid m o n table → Valid m o n table′
+  declares-valid table d table′ d′ h a v =
+      let s = seen m o n j i d c tail h in
+      subst (Valid m o n) (sym (a .table-is)) (set-valid table (a .relation) s (declared-valid m o n j i c tail (a .relation) s (a .full) (a .says)) v)

@@ -1,10 +1,10 @@
 -- What a declaration x_j x_i = c x_i x_j + tail comes to: its checks in their order, and the presentation after it.
 use mathlib.Core.Path.{_≡_}
-use mathlib.Core.List.{List, [], _∷_, _++_}
+use mathlib.Core.List.{List, [], _∷_}
 use mathlib.Core.Bool.{Bool, true, false, cond, _&&_, not}
-use Prim.Native.Nat.{ℕ, _+_, _-_, _≤_}
+use Prim.Native.Nat.{ℕ, _+_, _-_}
 use lib.Dec.{leb, ltb, eqb}
-use lib.ListN.{length, set, getD, take, replicate}
+use lib.ListN.{length, getD}
 use Rattle.std.specs.declared.option.Option.{Option}
 use Rattle.std.specs.declared.option.Option.the-variants.{Some, None}
 use Rattle.std.specs.declared.result.Result.{Result}
@@ -13,14 +13,13 @@ use Rattle.std.specs.declared.cmp.Ordering.{Ordering}
 use Rattle.std.specs.declared.cmp.Ordering.the-variants.{Less, Equal, Greater}
 use Rattle.coefficients.specs.Coding.{Coding}
 use Rattle.coefficients.specs.declared.fault.RingFault.the-variants.{NotInUse}
-use Rattle.orders.specs.Letters.{letters, image, letter-count, row-length}
+use Rattle.orders.specs.Letters.{letters, image, row-length}
 use Rattle.orders.specs.Models.{OrderModel, compare-images}
 use Rattle.words.specs.Inversions.{standard}
 use Rattle.words.specs.Rows.{is-row}
 use Rattle.words.specs.declared.term.Term.{Term}
 use Rattle.kept.specs.Kept.{compare-terms}
 use Rattle.kept.specs.Terms.{nil-term}
-use Rattle.run.specs.declared.relation.Relation.{Relation}
 use Rattle.run.specs.Relations.{pair-place}
 use Rattle.relations.specs.declared.fault.DeclareCause.{DeclareCause}
 use Rattle.relations.specs.declared.fault.DeclareCause.the-variants.{Generator, NotRising, AlreadyDeclared, Coefficient, FactorZero, TailSize, TailNotKept, TailNotBefore}

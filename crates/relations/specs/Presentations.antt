@@ -4,7 +4,6 @@ use mathlib.Core.List.{List, []}
 use mathlib.Core.Bool.{Bool, true, false}
 use Prim.Native.Nat.{ℕ, _<_}
 use lib.ListN.{set, replicate}
-use Rattle.theory.specs.Relations.{Pair}
 use Rattle.coefficients.specs.Coding.{Coding}
 use Rattle.orders.specs.Models.{OrderModel}
 use Rattle.words.specs.declared.term.Term.{Term}
@@ -31,15 +30,15 @@ pub record Opened (m : Coding) (table : List Relation) (declared : List Bool) : 
 -- a declaration passed every check: its relation may be written at this place
 pub record Accepted (m : Coding) (o : OrderModel) (n : ℕ) (declared : List Bool) (j i c : ℕ) (tail : List Term) (p : ℕ) (r : Relation) : Type 0 where
   pub answer : declare-answer m o n declared j i c tail ≡ passed
-  pub pair : Pair n j i
   pub place : p ≡ pair-place j i
   pub within : p < 64
   pub says : Says r c tail
   pub full : AllFull tail
 
--- the pair j, i has this relation now and counts as declared; all else is as it was
+-- the pair j, i has this relation now and counts as declared; all else is as it was; the rows of the tail have all their places
 pub record Declares (j i c : ℕ) (tail : List Term) (table : List Relation) (declared : List Bool) (table′ : List Relation) (declared′ : List Bool) : Type 0 where
   pub relation : Relation
   pub says : Says relation c tail
   pub table-is : table′ ≡ set table (pair-place j i) relation
   pub declared-is : declared′ ≡ set declared (pair-place j i) true
+  pub full : AllFull tail

@@ -1,11 +1,10 @@
-use mathlib.Core.Path.{_≡_, refl, ap, sym, _∙_, subst}
+use mathlib.Core.Path.{ap, sym, _∙_, subst}
 use denote.Ref.{now}
 use Prim.Native.Nat.{_+_}
 use native.Mathlib.Omega.{arith}
 use lib.ListN.{getD, drop}
 use Rattle.std.proofs.shelf.Lists.{drop-more, drop-all}
 use Rattle.std.proofs.shelf.Results.{err-from-errBy}
-use Rattle.std.specs.declared.option.Option.the-variants.{None}
 use Rattle.kept.specs.Terms.{nil-term}
 use Rattle.run.specs.Entries.{then-do}
 use Rattle.relations.specs.Declare.{passed, last-at, check-term, check-tail, AllFull}

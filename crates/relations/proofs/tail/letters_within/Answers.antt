@@ -1,9 +1,6 @@
-use mathlib.Core.Path.{_≡_, ap, sym, _∙_}
-use mathlib.Core.Bool.{true, false}
+use mathlib.Core.Path.{ap, sym, _∙_}
 use native.Mathlib.Omega.{arith}
-use lib.ListN.{getD}
 use Rattle.std.proofs.shelf.Ways.{tells}
-use Rattle.orders.specs.Letters.{is-letter}
 use Rattle.orders.proofs.Steps.{letters-stop, letters-go, letters-end}
 use Rattle.relations.specs.Declare.{letters-to}
 use Rattle.relations.proofs.tail.letters_within.Needs as need

@@ -1,4 +1,4 @@
-use mathlib.Core.Path.{_≡_, refl, ap, sym, _∙_}
+use mathlib.Core.Path.{ap, sym, _∙_}
 use native.Mathlib.Omega.{arith}
 use Rattle.std.proofs.shelf.Results.{err-from-errBy}
 use Rattle.std.specs.declared.option.Option.the-variants.{None}
@@ -61,7 +61,6 @@ returns g c =
       answer = tail-decides (g .R·Ring .model (s .ring)) (g .O·MonomialOrder .model (s .order)) (q .count .n) (q .declared) (c .args .j) (c .args .i) (c .args .factor) (c .args .tail .now)
           (pair-place (c .args .j) (c .args .i)) _ (a .answer) (c .in-Continue-check-factor .ensures tt) (r .0)
           ∙ sym (t ∙ ap (λ k. check-tail (g .R·Ring .model (s .ring)) (g .O·MonomialOrder .model (s .order)) k (c .args .j) (c .args .i) None 1 (c .args .tail .now) passed) (c .value .ensures .value));
-      pair = pair;
       place = place;
       within = omega arith;
       says = r .1;

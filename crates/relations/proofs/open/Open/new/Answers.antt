@@ -1,6 +1,5 @@
-use mathlib.Core.Path.{_≡_, refl, subst}
+use mathlib.Core.Path.{refl, subst}
 use Prim.Native.Nat.{ℕ}
-use native.Mathlib.Omega.{arith}
 use Rattle.relations.specs.Presentations.{Plain}
 use Rattle.relations.proofs.Validity.{opened-valid}
 use Rattle.relations.proofs.open.Open.new.Needs as need

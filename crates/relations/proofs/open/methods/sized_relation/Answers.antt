@@ -1,7 +1,6 @@
-use mathlib.Core.Path.{_≡_, ap}
-use Prim.Native.Nat.{_≤_}
+use mathlib.Core.Path.{ap}
 use native.Mathlib.Omega.{arith}
-use lib.ListN.{length, take, length-take}
+use lib.ListN.{length, length-take}
 use Rattle.run.specs.Relations.{tail-of}
 use Rattle.relations.proofs.open.methods.sized_relation.Needs as need
 
