@@ -1,21 +1,21 @@
 -- What a call has checked that was answered.
-use mathlib.Core.Path.{_≡_, refl, ap, subst, _∙_}
+use mathlib.Core.Path.{_≡_, refl, ap}
 use mathlib.Core.List.{List, [], _∷_}
-use mathlib.Core.Bool.{Bool, true, false, cond, _&&_}
+use mathlib.Core.Bool.{Bool, true, false}
 use Prim.Native.Nat.{ℕ, _+_}
 use native.Mathlib.Omega.{arith}
-use lib.Dec.{ltb, leb}
-use Rattle.std.proofs.shelf.Tests.{and-parts, ltb-true, leb-true}
+use Rattle.std.proofs.shelf.Tests.{and-parts}
 use Rattle.std.specs.declared.result.Result.{Result}
 use Rattle.std.specs.declared.result.Result.the-variants.{Ok, Err}
 use Rattle.theory.specs.Words.{Over}
 use Rattle.coefficients.specs.Coding.{Coding}
 use Rattle.coefficients.specs.declared.fault.RingFault.the-variants.{NotInUse}
-use Rattle.orders.specs.Letters.{letters, is-letter, letter-count}
+use Rattle.orders.specs.Letters.{letters}
 use Rattle.words.specs.Rows.{is-row}
 use Rattle.words.specs.declared.term.Term.{Term}
 use Rattle.run.specs.declared.fault.RunFault.{RunFault}
 use Rattle.relations.specs.Declare.{letters-to, is-word}
+use Rattle.relations.proofs.Validity.{over-letters}
 use Rattle.algebra.specs.declared.fault.CallCause.{CallCause}
 use Rattle.algebra.specs.declared.fault.CallCause.the-variants as cause
 use Rattle.algebra.specs.declared.fault.AlgebraFault.{AlgebraFault}
@@ -29,18 +29,6 @@ use Rattle.algebra.specs.Verdicts.{IsSound}
 
 pub err-not-ok : {A E : Type 0} (e : E) (y : A) → _≡_ {A = Result A E} (Err e) (Ok y) → ⊥
 err-not-ok e y h = let z : _≡_ {A = ℕ} 0 1 = cc in omega arith
-
-pub letters-over : (n : ℕ) (row : List ℕ) → letters-to n (letters row) ≡ true → Over n (letters row)
-letters-over n [] h = tt
-letters-over n (x ∷ row) h = at (letters-over n row) (is-letter x) refl h
-  where
-    at : (letters-to n (letters row) ≡ true → Over n (letters row)) → (b : Bool) → is-letter x ≡ b → letters-to n (cond b (x ∷ letters row) []) ≡ true → Over n (cond b (x ∷ letters row) [])
-    at rest true e h =
-        let a = and-parts (leb x n) (letters-to n (letters row)) h in
-        let b = and-parts (ltb 0 x) (leb x letter-count) e in
-        let low = ltb-true 0 x (b .0) in
-        (record { low = omega arith; high = leb-true x n (a .0) }, rest (a .1))
-    at rest false e h = tt
 
 -- a word in the letters 1 to n, with a code in use
 pub record Loadable (m : Coding) (n : ℕ) (t : Term) : Type 0 where
@@ -56,7 +44,7 @@ check-ok true f p q r x h = (refl, h)
 check-ok false f p q r x h = absurd (err-not-ok (Call (record { cause = f; a = p; b = q })) x h)
 
 loadable : (m : Coding) (n : ℕ) (t : Term) → is-word n (t .row) ≡ true → m .used (t .code) ≡ true → Loadable m n t
-loadable m n t w u = record { over = letters-over n (t .row) (and-parts (is-row (t .row)) (letters-to n (letters (t .row))) w .1); in-use = u }
+loadable m n t w u = record { over = over-letters n (t .row) (and-parts (is-row (t .row)) (letters-to n (letters (t .row))) w .1); in-use = u }
 
 module _ {A : Type 0} (m : Coding) (n : ℕ) where
   pub scan-first-ok : (p : ℕ) (ts : List Term) (r : Result A AlgebraFault) (x : A) → scan-first m n p ts r ≡ Ok x → AllLoadable m n ts × (r ≡ Ok x)

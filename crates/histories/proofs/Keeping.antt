@@ -1,5 +1,5 @@
 -- What every history keeps: a valid table, a true verdict, and calculations whose terms are the normal form of their free sum.
-use mathlib.Core.Path.{_≡_, refl, sym, ap, subst, _∙_}
+use mathlib.Core.Path.{_≡_, refl, sym, subst, _∙_}
 use mathlib.Core.Logic.{inl, inr}
 use mathlib.Core.List.{List, [], _∷_, _++_}
 use Prim.Native.Nat.{ℕ}
@@ -38,7 +38,8 @@ use Rattle.algebra.specs.Verdicts.{IsSound, IsDegenerate}
 use Rattle.histories.specs.State.{State, count, table-of, verdict}
 use Rattle.histories.specs.History.{Calculation, Operand, list, earlier, History, opens, declares, declare-refused, closes, overlaps, overlap-refused, decides, normalises, normalise-refused, adds, sum-refused, subtracts, difference-refused, multiplies, product-refused}
 use Rattle.algebra.proofs.Calling.{normalise-ok, sum-ok, difference-ok, product-ok}
-use Rattle.histories.proofs.Declaring.{opened-valid, declare-ok, declare-valid}
+use Rattle.relations.proofs.Validity.{opened-valid, declares-valid}
+use Rattle.histories.proofs.Declaring.{count-few}
 use Rattle.algebra.proofs.Deciding.{decided}
 
 module _ (m : Coding) (o : OrderModel) (n : ℕ) (table : List Relation) where
@@ -168,17 +169,16 @@ module _ (m : Coding) (o : OrderModel) (n : ℕ) (table : List Relation) (v : Ve
 
 pub keeps : (m : Coding) (o : OrderModel) (s : State) (cs : List (Calculation m)) → History m o s cs → Kept m o (count s) (table-of s) (verdict s) cs
 keeps m o s cs (opens n {table = table} {declared = declared} c h) = record {
-  valid = opened-valid m o n table declared c h;
+  valid = opened-valid m o n table (count-few n c) (h .plain);
   basis = λ x. absurd x;
   not-basis = λ x. absurd x;
   only-sound = λ c a. absurd a;
   each = λ c a. absurd a;
 }
-keeps m o s cs (declares {n = n} {table = table} {table′ = table′} {declared = declared} {declared′ = declared′} j i c tail h rows e d) =
+keeps m o s cs (declares {n = n} {table = table} {table′ = table′} {declared = declared} {declared′ = declared′} j i c tail h e d) =
     let k = keeps m o _ cs h in
-    let x = declare-ok m o n declared j i c tail e in
     record {
-      valid = declare-valid m o n table table′ declared declared′ j i c tail (k .valid) d (x .pair) x rows;
+      valid = declares-valid m o n j i c tail table declared table′ declared′ e d (k .valid);
       basis = λ x. absurd x;
       not-basis = λ x. absurd x;
       only-sound = k .only-sound;

@@ -1,12 +1,10 @@
 -- The law, from what every history keeps.
 use mathlib.Core.Path.{_≡_, sym, subst, _∙_}
-use mathlib.Core.Logic.{_⊎_, inl, inr}
 use mathlib.Core.List.{List}
 use Rattle.theory.specs.Ring.{CommutativeRing}
 use Rattle.theory.specs.FreeSum.{FreeSum, _≈_}
 use Rattle.theory.specs.Relations.{Relations}
 use Rattle.theory.specs.Congruence.{Congruent}
-use Rattle.theory.specs.Basis.{Basis}
 use Rattle.theory.specs.Rewriting.{Ended, Rewriting, done, then, AllWhole}
 use Rattle.theory.proofs.Basis.{NF-congruent}
 use Rattle.theory.proofs.Congruence.{congruent-sym, congruent-trans}
@@ -15,22 +13,16 @@ use Rattle.theory.proofs.Standard.{standard-ended}
 use Rattle.theory.proofs.Standardise.{standardise}
 use Rattle.coefficients.specs.Coding.{Coding}
 use Rattle.orders.specs.Models.{OrderModel}
-use Rattle.algebra.specs.declared.verdict.Verdict.{Verdict}
-use Rattle.algebra.specs.declared.verdict.Verdict.the-variants.{Undecided, Sound, Degenerate}
 use Rattle.normal_forms.specs.Terms.{Among, sum-of}
 use Rattle.normal_forms.specs.Relations.{relations-of, Ends}
 use Rattle.normal_forms.proofs.Ends.{rewriting-ends}
 use Rattle.normal_forms.proofs.Consequences.{tell-apart}
-use Rattle.algebra.specs.Verdicts.{IsSound, IsDegenerate, IsDecided}
+use Rattle.algebra.specs.Verdicts.{IsSound}
+use Rattle.algebra.proofs.Meaning.{tells-truth}
 use Rattle.histories.specs.State.{State, count, table-of, verdict, relations}
 use Rattle.histories.specs.History.{Calculation, History}
 use Rattle.histories.specs.Law.{Arrives, Faithful, Histories-faithful}
 use Rattle.histories.proofs.Keeping.{Kept, keeps, tails, resolves, calculated-congruent}
-
-sound-or-not : (v : Verdict) → IsDecided v → IsSound v ⊎ IsDegenerate v
-sound-or-not Undecided d = absurd d
-sound-or-not Sound d = inl tt
-sound-or-not (Degenerate i j k) d = inr tt
 
 -- a rewriting that comes to g comes to what is equal to g
 arrive : {R : CommutativeRing} (P : Relations R) (f g h : FreeSum R) → g ≈ h → (t : Rewriting P f g) → AllWhole P t → (u : Rewriting P f h) × AllWhole P u
@@ -71,18 +63,9 @@ module _ (m : Coding) (o : OrderModel) (s : State) (cs : List (Calculation m)) (
         let q = arrive P (c .free-sum) (st .sum) (sum-of m (c .terms)) (ended-at c a (st .sum) (st .rewriting) (standard-ended (st .sum) (st .standard))) (st .rewriting) (st .whole) in
         record { rewriting = q .0; whole = q .1; ended = standard-ended (sum-of m (c .terms)) (k .form .standard) }
 
-  sound-of : Basis P → IsSound (verdict s) ⊎ IsDegenerate (verdict s) → IsSound (verdict s)
-  sound-of b (inl h) = h
-  sound-of b (inr h) = absurd (kept .not-basis h b)
-
-  degenerate-of : ¬ Basis P → IsSound (verdict s) ⊎ IsDegenerate (verdict s) → IsDegenerate (verdict s)
-  degenerate-of b (inl h) = absurd (b (kept .basis h))
-  degenerate-of b (inr h) = h
-
   faithful : Faithful m s cs
   faithful = record {
-    sound-is-basis = λ d. (kept .basis, λ b. sound-of b (sound-or-not (verdict s) d));
-    degenerate-is-not = λ d. (kept .not-basis, λ b. degenerate-of b (sound-or-not (verdict s) d));
+    verdict-true = tells-truth m (count s) (table-of s) (verdict s) (record { sound = kept .basis; degenerate = kept .not-basis });
     equal-is-congruent = λ h c d a b. (equal-congruent c d a b, congruent-equal h c d a b);
     every-rewriting = ended-at;
     some-rewriting = arrives;

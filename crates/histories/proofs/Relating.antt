@@ -23,21 +23,22 @@ use Rattle.normal_forms.specs.Relations.{relations-of, Valid}
 use Rattle.histories.specs.State.{State, opened, closed, count, table-of}
 use Rattle.histories.specs.History.{Calculation, History, opens, declares, declare-refused, closes, overlaps, overlap-refused, decides, normalises, normalise-refused, adds, sum-refused, subtracts, difference-refused, multiplies, product-refused, Declaration, declarations}
 use Rattle.histories.specs.Law.{Plain, Gives, Names, Presents, Relations-declared}
-use Rattle.histories.proofs.Declaring.{pair-low, count-few, opened-relation, declare-ok, relation-same, relation-other}
+use Rattle.relations.proofs.Validity.{seen}
+use Rattle.histories.proofs.Declaring.{pair-low, count-few, opened-relation, relation-same, relation-other}
 use Rattle.histories.proofs.Keeping.{keeps}
 
 opened-plain : (m : Coding) (n : ℕ) (table : List Relation) (declared : List Bool) → is-count n ≡ true → Opened m table declared → Plain m n table
 unfolding relations-of sum-of
 opened-plain m n table declared c h = record {
-  factors = λ j i p. ap (λ r. m .means (r .factor)) (opened-relation m n table declared h (count-few n c) j i p) ∙ ap (m .means) (h .says .factor) ∙ m .one-code .is;
-  tails = λ j i p. ap (λ r. sum-of m (tail-of r)) (opened-relation m n table declared h (count-few n c) j i p) ∙ ap (sum-of m) (h .says .tail);
+  factors = λ j i p. ap (λ r. m .means (r .factor)) (opened-relation m n table declared h (count-few n c) j i p) ∙ ap (m .means) (h .plain .says .factor) ∙ m .one-code .is;
+  tails = λ j i p. ap (λ r. sum-of m (tail-of r)) (opened-relation m n table declared h (count-few n c) j i p) ∙ ap (sum-of m) (h .plain .says .tail);
 }
 
 declare-gives : (m : Coding) (o : OrderModel) (n : ℕ) (table table′ : List Relation) (declared declared′ : List Bool) (j i c : ℕ) (tail : List Term) → Valid m o n table
     → declare-answer m o n declared j i c tail ≡ Ok tt → Declares j i c tail table declared table′ declared′ → Gives m n table table′ j i c tail
 unfolding relations-of
 declare-gives m o n table table′ declared declared′ j i c tail valid e h =
-    let pair = declare-ok m o n declared j i c tail e .pair in
+    let pair = seen m o n j i declared c tail e .pair in
     let same = relation-same m o n table table′ declared declared′ j i c tail valid h pair in
     let other = relation-other m o n table table′ declared declared′ j i c tail valid h pair in
     record {
@@ -83,7 +84,7 @@ module _ (m : Coding) (o : OrderModel) (n : ℕ) (table table′ : List Relation
   gives = declare-gives m o n table table′ declared declared′ j i c tail valid e h
 
   unnamed : ¬ Names j i ds
-  unnamed x = not-marked (getD declared (pair-place j i) false) (declare-ok m o n declared j i c tail e .fresh) (told .marked .1 j i x)
+  unnamed x = not-marked (getD declared (pair-place j i) false) (seen m o n j i declared c tail e .fresh) (told .marked .1 j i x)
 
   -- a pair that has a declaration already is another
   another : (d : Declaration) → Among d ds → ¬ ((d .j ≡ j) × (d .i ≡ i))
@@ -140,7 +141,7 @@ told-all m o s cs (opens n {table = table} {declared = declared} c h) =
       };
       marked = (ap length (h .none-declared) ∙ length-replicate 64 false, λ j i x. absurd x);
     }
-told-all m o s cs (declares {n = n} {table = table} {table′ = table′} {declared = declared} {declared′ = declared′} j i c tail h rows e d) =
+told-all m o s cs (declares {n = n} {table = table} {table′ = table′} {declared = declared} {declared′ = declared′} j i c tail h e d) =
     declare-told m o n table table′ declared declared′ (declarations h) j i c tail (keeps m o (opened n table declared) cs h .valid) (told-all m o (opened n table declared) cs h) e d
 told-all m o s cs (declare-refused j i c tail h e) = told-all m o s cs h
 told-all m o s cs (closes {n = n} {table = table} {declared = declared} h) = record { presents = told-all m o (opened n table declared) cs h .presents; marked = tt }

@@ -3,11 +3,9 @@ use mathlib.Core.Path.{_≡_}
 use mathlib.Core.List.{List, [], _∷_, _++_}
 use mathlib.Core.Bool.{Bool, true}
 use Prim.Native.Nat.{ℕ}
-use lib.ListN.{length}
 use Rattle.std.specs.declared.result.Result.the-variants.{Ok, Err}
 use Rattle.theory.specs.FreeSum.{FreeSum, negate, times}
 use Rattle.coefficients.specs.Coding.{Coding}
-use Rattle.orders.specs.Letters.{row-length}
 use Rattle.orders.specs.Models.{OrderModel}
 use Rattle.words.specs.declared.term.Term.{Term}
 use Rattle.run.specs.declared.relation.Relation.{Relation}
@@ -36,17 +34,12 @@ pub data Operand (m : Coding) (cs : List (Calculation m)) : List Term → FreeSu
   list : (ts : List Term) → Operand m cs ts (sum-of m ts)
   earlier : (c : Calculation m) → Among c cs → Operand m cs (c .terms) (c .free-sum)
 
--- the row of each term has all its places, as the type of rows says
-abbrev pub FullRows : List Term → Type 0
-FullRows [] = Unit {0}
-FullRows (t ∷ ts) = (length (t .row) ≡ row-length) × FullRows ts
-
 -- s is a state that an algebra comes to, and cs are the calculations that it has answered by then, the latest first
 pub data History (m : Coding) (o : OrderModel) : State → List (Calculation m) → Type 0 where
   opens : (n : ℕ) {table : List Relation} {declared : List Bool}
       → is-count n ≡ true → Opened m table declared → History m o (opened n table declared) []
   declares : {n : ℕ} {table table′ : List Relation} {declared declared′ : List Bool} {cs : List (Calculation m)} (j i c : ℕ) (tail : List Term)
-      → History m o (opened n table declared) cs → FullRows tail
+      → History m o (opened n table declared) cs
       → declare-answer m o n declared j i c tail ≡ Ok tt → Declares j i c tail table declared table′ declared′
       → History m o (opened n table′ declared′) cs
   declare-refused : {n : ℕ} {table : List Relation} {declared : List Bool} {cs : List (Calculation m)} {e : DeclareFault} (j i c : ℕ) (tail : List Term)
@@ -99,7 +92,7 @@ pub record Declaration : Type 0 where
 -- the declares that were answered, the latest first
 abbrev pub declarations : {m : Coding} {o : OrderModel} {s : State} {cs : List (Calculation m)} → History m o s cs → List Declaration
 declarations (opens n c h) = []
-declarations (declares j i c tail h rows e d) = record { j = j; i = i; c = c; tail = tail } ∷ declarations h
+declarations (declares j i c tail h e d) = record { j = j; i = i; c = c; tail = tail } ∷ declarations h
 declarations (declare-refused j i c tail h e) = declarations h
 declarations (closes h) = declarations h
 declarations (overlaps mem i j k h e) = declarations h

@@ -9,7 +9,6 @@ use Rattle.theory.specs.Ring.{CommutativeRing}
 use Rattle.theory.specs.FreeSum.{FreeSum, _≈_}
 use Rattle.theory.specs.Relations.{Relations, Pair}
 use Rattle.theory.specs.Congruence.{Congruent}
-use Rattle.theory.specs.Basis.{Basis}
 use Rattle.theory.specs.Rewriting.{Ended, Rewriting, AllWhole}
 use Rattle.coefficients.specs.Coding.{Coding}
 use Rattle.orders.specs.Models.{OrderModel}
@@ -20,7 +19,8 @@ use Rattle.relations.specs.Declare.{declare-answer}
 use Rattle.relations.specs.Presentations.{Opened, Declares}
 use Rattle.normal_forms.specs.Terms.{Among, sum-of}
 use Rattle.normal_forms.specs.Relations.{relations-of}
-use Rattle.algebra.specs.Verdicts.{IsSound, IsDegenerate, IsDecided}
+use Rattle.algebra.specs.Verdicts.{IsSound}
+use Rattle.algebra.specs.Meaning.{TellsTruth}
 use Rattle.histories.specs.State.{State, opened, count, table-of, verdict, relations}
 use Rattle.histories.specs.History.{Calculation, History, Declaration, declarations}
 
@@ -34,8 +34,7 @@ pub record Arrives {R : CommutativeRing} (P : Relations R) (f g : FreeSum R) : T
 
 pub record Faithful (m : Coding) (s : State) (cs : List (Calculation m)) : Type 0 where
   -- (a) once decided, an algebra is sound exactly where its standard words are a basis, and degenerate exactly where they are not
-  pub sound-is-basis : IsDecided (verdict s) → IsSound (verdict s) ↔ Basis (relations m s)
-  pub degenerate-is-not : IsDecided (verdict s) → IsDegenerate (verdict s) ↔ (¬ Basis (relations m s))
+  pub verdict-true : TellsTruth m (count s) (table-of s) (verdict s)
   -- (b) in a sound algebra two calculations have equal terms exactly where their free sums are congruent
   pub equal-is-congruent : IsSound (verdict s) → (c d : Calculation m) → Among c cs → Among d cs
       → (c .terms ≡ d .terms) ↔ Congruent (relations m s) (c .free-sum) (d .free-sum)

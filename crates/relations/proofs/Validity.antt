@@ -45,7 +45,7 @@ less-is Less h = refl
 less-is Equal h = let z : _≡_ {A = ℕ} 0 1 = cc in absurd (omega arith)
 less-is Greater h = let z : _≡_ {A = ℕ} 0 1 = cc in absurd (omega arith)
 
-over-letters : (n : ℕ) (row : List ℕ) → letters-to n (letters row) ≡ true → Over n (letters row)
+pub over-letters : (n : ℕ) (row : List ℕ) → letters-to n (letters row) ≡ true → Over n (letters row)
 over-letters n [] h = tt
 over-letters n (x ∷ xs) h = at (over-letters n xs) (is-letter x) refl h
   where
@@ -84,12 +84,13 @@ module _ (m : Coding) (o : OrderModel) (n j i : ℕ) where
       all s rest u (inr a) = rest u a
 
   -- what an accepted declaration has seen to
-  pub record Seen (c : ℕ) (tail : List Term) : Type 0 where
+  pub record Seen (d : List Bool) (c : ℕ) (tail : List Term) : Type 0 where
     pub pair : Pair n j i
+    pub fresh : not (getD d (pair-place j i) false) ≡ true
     pub factor : m .used c ≡ true
     pub tail-checked : check-tail m o n j i None 1 tail passed ≡ passed
 
-  pub seen : (d : List Bool) (c : ℕ) (tail : List Term) → declare-answer m o n d j i c tail ≡ passed → Seen c tail
+  pub seen : (d : List Bool) (c : ℕ) (tail : List Term) → declare-answer m o n d j i c tail ≡ passed → Seen d c tail
   unfolding declare-answer
   seen d c tail h =
       let e₇ = check-tail m o n j i None 1 tail passed in
@@ -112,13 +113,14 @@ module _ (m : Coding) (o : OrderModel) (n j i : ℕ) where
           falls = ltb-true i j (q₃ .0);
           high = leb-true j n (and-parts (leb 1 j) (leb j n) (q₁ .0) .1);
         };
+        fresh = q₄ .0;
         factor = q₅ .0;
         tail-checked = q₇ .1;
       }
 
   -- the relation of an accepted declaration
-  declared-valid : (c : ℕ) (tail : List Term) (r : Relation) → Seen c tail → AllFull tail → Says r c tail → ValidRelation m o n j i r
-  declared-valid c tail r s f a =
+  declared-valid : (d : List Bool) (c : ℕ) (tail : List Term) (r : Relation) → Seen d c tail → AllFull tail → Says r c tail → ValidRelation m o n j i r
+  declared-valid d c tail r s f a =
       record { factor = ap (m .used) (a .factor) ∙ s .factor; tail = λ t b. tail-ok None 1 tail (s .tail-checked) f t (subst (Among t) (a .tail) b) }
 
 pub opened-valid : (m : Coding) (o : OrderModel) (n : ℕ) (table : List Relation) → n ≤ letter-count → Plain (m .one) table → Valid m o n table
@@ -137,9 +139,9 @@ opened-valid m o n table h p =
     plain j i = record { factor = ap (m .used) (p .says .factor) ∙ m .one-code .in-use; tail = λ t a. absurd (subst (Among t) (p .says .tail) a) }
 
 module _ (m : Coding) (o : OrderModel) (n j i c : ℕ) (tail : List Term) where
-  set-valid : (table : List Relation) (r : Relation) → Seen m o n j i c tail → ValidRelation m o n j i r → Valid m o n table → Valid m o n (set table (pair-place j i) r)
+  set-valid : (d : List Bool) (table : List Relation) (r : Relation) → Seen m o n j i d c tail → ValidRelation m o n j i r → Valid m o n table → Valid m o n (set table (pair-place j i) r)
   unfolding relation-of
-  set-valid table r s w v = record {
+  set-valid d table r s w v = record {
     few = v .few;
     size = length-set table (pair-place j i) r ∙ v .size;
     pairs = λ j′ i′ f. at j′ i′ f (ℕ-discrete (pair-place j′ i′) (pair-place j i));
@@ -186,4 +188,4 @@ module _ (m : Coding) (o : OrderModel) (n j i c : ℕ) (tail : List Term) where
       → Declares j i c tail table d table′ d′ → Valid m o n table → Valid m o n table′
   declares-valid table d table′ d′ h a v =
       let s = seen m o n j i d c tail h in
-      subst (Valid m o n) (sym (a .table-is)) (set-valid table (a .relation) s (declared-valid m o n j i c tail (a .relation) s (a .full) (a .says)) v)
+      subst (Valid m o n) (sym (a .table-is)) (set-valid d table (a .relation) s (declared-valid m o n j i d c tail (a .relation) s (a .full) (a .says)) v)
