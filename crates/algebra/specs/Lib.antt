@@ -2,3 +2,4 @@ pub mod Faults
 pub mod Overlaps
 pub mod Calls
 pub mod Decide
+pub mod Searching
