@@ -1,10 +1,10 @@
 -- Laws of the search among triples.
 use mathlib.Core.Path.{_≡_, refl, ap, sym, _∙_}
-use mathlib.Core.Bool.{Bool, true, false}
+use mathlib.Core.Bool.{true, false}
 use mathlib.Core.List.{List, [], _∷_, _++_}
 use Prim.Native.Nat.{ℕ, zero, suc, _+_, _-_, _<_, _≤_}
 use native.Mathlib.Omega.{arith}
-use lib.ListN.{length, take, drop}
+use lib.ListN.{length, take}
 use Rattle.std.specs.Iters.{counting}
 use Rattle.std.specs.declared.result.Result.{Result}
 use Rattle.std.specs.declared.result.Result.the-variants.{Ok, Err}
@@ -14,8 +14,7 @@ use Rattle.words.specs.declared.term.Term.{Term}
 use Rattle.run.specs.declared.fault.RunFault.{RunFault}
 use Rattle.run.specs.declared.relation.Relation.{Relation}
 use Rattle.run.specs.Step.{Outcome}
-use Rattle.run.specs.Calls.{Memory, Answered}
-use Rattle.algebra.specs.declared.fault.AlgebraFault.the-variants.{Run}
+use Rattle.run.specs.Calls.{Memory}
 use Rattle.algebra.specs.declared.fault.DecideFault.{DecideFault}
 use Rattle.algebra.specs.declared.verdict.Verdict.{Verdict}
 use Rattle.algebra.specs.declared.verdict.Verdict.the-variants.{Undecided, Sound, Degenerate}

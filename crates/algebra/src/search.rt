@@ -1,7 +1,6 @@
 // The search for a triple whose overlap does not vanish, by smallest i, then j, then k. Both memories are blank before and after.
 ghost use mathlib.Core.Path.{_≡_};
 ghost use Prim.Native.Nat.{_≤_, _<_};
-ghost use Rattle.std.specs.Iters.{counting};
 ghost use lib.ListN.{length};
 ghost use Rattle.std.specs.declared.result.Result.the-variants.{Ok};
 ghost use Rattle.kept.specs.Terms.{blanks};

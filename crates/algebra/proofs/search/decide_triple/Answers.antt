@@ -1,7 +1,6 @@
 use mathlib.Core.Path.{_≡_, ap, _∙_}
 use native.Mathlib.Omega.{arith}
 use lib.ListN.{length}
-use Prim.Native.Nat.{ℕ}
 use Rattle.std.specs.declared.result.Result.the-variants.{Ok}
 use Rattle.kept.specs.Terms.{blanks}
 use Rattle.algebra.specs.declared.verdict.Verdict.the-variants.{Sound}

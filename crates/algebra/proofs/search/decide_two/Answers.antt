@@ -1,13 +1,11 @@
 use mathlib.Core.Path.{_≡_, ap, sym, _∙_}
-use mathlib.Core.Bool.{true, false}
 use native.Mathlib.Omega.{arith}
-use Prim.Native.Nat.{_+_}
 use lib.ListN.{length}
 use Rattle.std.specs.Iters.{counting}
 use Rattle.kept.specs.Terms.{blanks}
 use Rattle.run.specs.Calls.{Memory}
 use Rattle.algebra.specs.Decide.{each, decide-over}
-use Rattle.algebra.specs.Searching.{triple-at, goes-on}
+use Rattle.algebra.specs.Searching.{triple-at}
 use Rattle.algebra.proofs.Searching.{search-on, search-stop, search-end, search-start}
 use Rattle.algebra.proofs.search.decide_two.Needs as need
 
