@@ -18,7 +18,6 @@ use Rattle.run.specs.Entries.{then-do}
 use Rattle.run.specs.Step.{Outcome}
 use Rattle.run.specs.Calls as run
 use Rattle.relations.specs.Declare.{is-word, is-generator}
-use Rattle.algebra.specs.declared.fault.CallCause.{CallCause}
 use Rattle.algebra.specs.declared.fault.CallCause.the-variants.{Generator, NotRising, Coefficient}
 use Rattle.algebra.specs.declared.fault.AlgebraFault.{AlgebraFault}
 use Rattle.algebra.specs.declared.fault.AlgebraFault.the-variants.{Call}

@@ -1,8 +1,9 @@
+pub mod Calling
 pub mod Checking
+pub mod Deciding
+pub mod Meaning
 pub mod Overlapping
 pub mod Scanning
+pub mod Searching
 pub mod Standing
 pub mod Triples
-pub mod Deciding
-pub mod Calling
-pub mod Meaning

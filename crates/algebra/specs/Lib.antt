@@ -1,6 +1,7 @@
-pub mod Faults
-pub mod Overlaps
 pub mod Calls
 pub mod Decide
-pub mod Verdicts
+pub mod Faults
 pub mod Meaning
+pub mod Overlaps
+pub mod Searching
+pub mod Verdicts

@@ -36,4 +36,5 @@ impl<R, O> Closed<R, O> {
 }
 
 mod calls;
+mod decide;
 mod overlap;

@@ -1,8 +1,9 @@
 // Closed algebras: overlaps, the decision whether the standard words are a basis, and calculations.
 pub mod closed;
 pub mod fault;
-pub mod overlap;
-pub mod rows;
-pub mod scan;
-pub mod triple;
+mod overlap;
+mod rows;
+mod scan;
+mod search;
+mod triple;
 pub mod verdict;
