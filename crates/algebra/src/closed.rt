@@ -16,7 +16,7 @@ pub struct Closed<R, O> {
 
 impl<R, O> Closed<R, O> {
     // Nothing is known of it yet.
-    pub fn undecided(ring: R, order: O, count: Count, table: Table) -> Closed<R, O>
+    pub(crate) fn undecided(ring: R, order: O, count: Count, table: Table) -> Closed<R, O>
         ensures { λ r. ⌜ r .ring ≡ ring ⌝ ∗ ⌜ r .order ≡ order ⌝ ∗ ⌜ r .count ≡ count ⌝ ∗ ⌜ r .table ≡ table ⌝ ∗ ⌜ r .verdict ≡ Undecided ⌝ }
     {
         Closed {

@@ -3,6 +3,8 @@ ghost use mathlib.Core.Path.{_≡_};
 ghost use lib.ListN.{length};
 ghost use Rattle.kept.specs.Terms.{blanks};
 ghost use Rattle.algebra.specs.Decide.{decide as decision, verdict-after};
+ghost use Rattle.algebra.specs.Meaning.{TellsTruth, Decided};
+ghost use Rattle.normal_forms.specs.Relations.{Valid};
 use crate::closed::Closed;
 use crate::fault::DecideFault;
 use crate::search::decide_all;
@@ -36,6 +38,7 @@ impl<R: Ring, O: MonomialOrder> Closed<R, O> {
     // are blank.
     pub fn decide(&mut self, work: &mut [Term], out: &mut [Term]) -> Result<Verdict, DecideFault>
         ensures value { λ r. ⌜ r ≡ decision (R·Ring .model (now (self .entry) .ring)) (O·MonomialOrder .model (now (self .entry) .order)) (record { work = length (now (work .entry)); result = length (now (out .entry)) }) (now (self .entry) .count .n) (now (self .entry) .table) (now (self .entry) .verdict) ⌝ }
+        ensures meaning { λ r. ⌜ (Valid (R·Ring .model (now (self .entry) .ring)) (O·MonomialOrder .model (now (self .entry) .order)) (now (self .entry) .count .n) (now (self .entry) .table) → TellsTruth (R·Ring .model (now (self .entry) .ring)) (now (self .entry) .count .n) (now (self .entry) .table) (now (self .entry) .verdict) → Decided (R·Ring .model (now (self .entry) .ring)) (now (self .entry) .count .n) (now (self .entry) .table) r) ⌝ }
         ensures verdict { λ r. ⌜ now (self .exit) .verdict ≡ verdict-after (now (self .entry) .verdict) r ⌝ }
         ensures ring_and_order { λ _. ⌜ now (self .exit) .ring ≡ now (self .entry) .ring ⌝ ∗ ⌜ now (self .exit) .order ≡ now (self .entry) .order ⌝ }
         ensures relations { λ _. ⌜ now (self .exit) .count ≡ now (self .entry) .count ⌝ ∗ ⌜ now (self .exit) .table ≡ now (self .entry) .table ⌝ }

@@ -169,17 +169,23 @@ impl<R: Ring, O: MonomialOrder> Open<R, O> {
     }
 
     // What a closed algebra goes on with.
-    pub fn into_parts(self) -> (R, O, Presentation)
+    pub fn into_parts(self) -> (R, O, Count, Table)
         ensures ring { λ r. ⌜ r .0 ≡ self .ring ⌝ }
         ensures order { λ r. ⌜ r .1 ≡ self .order ⌝ }
-        ensures presentation { λ r. ⌜ r .2 ≡ self .presentation ⌝ }
+        ensures count { λ r. ⌜ r .2 ≡ self .presentation .count ⌝ }
+        ensures table { λ r. ⌜ r .3 ≡ self .presentation .table ⌝ }
     {
         let Open {
             ring,
             order,
             presentation,
         } = self;
-        (ring, order, presentation)
+        let Presentation {
+            count,
+            table,
+            declared: _,
+        } = presentation;
+        (ring, order, count, table)
     }
 
     pub fn ring(&self) -> &R
