@@ -1,24 +1,19 @@
 -- Inversions in one pass: the letters so far are bytes of one number, and casting out 255 adds up the bytes of the larger letters.
 use mathlib.Core.Path.{_≡_, refl, ap, ap₂, sym, _∙_}
 use mathlib.Core.List.{List, [], _∷_}
-use mathlib.Core.Bool.{Bool, true, false, cond}
+use mathlib.Core.Bool.{Bool, true, cond}
 use mathlib.Core.Logic.{⊎-elim}
-use Prim.Native.Nat.{ℕ, zero, suc, _+_, _-_, _*_, _%_, _^_, _<_, _≤_}
+use Prim.Native.Nat.{ℕ, zero, suc, _+_, _-_, _*_, _/_, _%_, _^_, _<_, _≤_}
 use native.Mathlib.Omega.{arith}
-use native.Mathlib.Nat.{pow-suc, add-mul, mul-add, mul-assoc, mul-comm, mod-eq-of-lt, mul-add-mod-self-left, mul-add-mod-self-right, add-comm}
+use native.Mathlib.Nat.{pow-suc, mul-add, mul-assoc, mul-comm, mod-eq-of-lt, mul-add-mod-self-left, mul-add-mod-self-right, add-mod}
 use lib.Pow.{pow-add}
 use lib.Dec.{ltb}
 use lib.ListN.{length}
 use Rattle.std.proofs.shelf.Tests.{cases-eq, cases-bool, ltb-true, ltb-false}
-use Rattle.orders.specs.Letters.{letters, is-letter, count}
-use Rattle.orders.proofs.Packing.{packing, total, total-lt, packing-total, count-same, count-other, letters-le, Lettered, letters-lettered}
+use Rattle.orders.specs.Letters.{is-letter, count}
+use Rattle.orders.proofs.Packing.{packing, total, total-lt, packing-total, count-same, count-other, Lettered}
 use Rattle.orders.proofs.Steps.{letter-bounds}
 use Rattle.words.specs.Inversions.{below, inversions}
-
--- what one pass adds up, where the letters so far make the number s
-abbrev pub run : ℕ → List ℕ → ℕ
-run s [] = 0
-run s (x ∷ w) = s % 256 ^ (8 - x) % 255 + run (s + 256 ^ (8 - x)) w
 
 -- the last bytes of the number
 low : (j k n : ℕ) (p : List ℕ) → length p < 256 → j ≤ n → total k n p % 256 ^ j ≡ total (k + n - j) j p
@@ -154,16 +149,84 @@ crossing-none : (w : List ℕ) → crossing [] w ≡ 0
 crossing-none [] = refl
 crossing-none (y ∷ w) = let h = crossing-none w in omega arith
 
-run-crossing : (p w : List ℕ) → Lettered p → Lettered w → length p + length w < 255 → run (packing p) w ≡ crossing p w + inversions w
-run-crossing p [] h k l = refl
-run-crossing p (x ∷ w) h k l =
-    let d = digits-above x p (k .0) h (omega arith) in
-    let r = ap (λ s. run s w) (add-comm (packing p) (256 ^ (8 - x))) ∙ run-crossing (x ∷ p) w (k .0, h) (k .1) (omega arith) in
-    let c = crossing-more x p w in
-    omega arith
+-- how many pairs of places i letters have
+abbrev pairs : ℕ → ℕ
+pairs zero = 0
+pairs (suc i) = i + pairs i
 
-pub run-inversions : (xs : List ℕ) → length xs ≤ 32 → run 0 (letters xs) ≡ inversions (letters xs)
-run-inversions xs h =
-    let l = letters-le xs in
-    let c = crossing-none (letters xs) in
-    run-crossing [] (letters xs) tt (letters-lettered xs) (omega arith) ∙ omega arith
+pairs-le : (i j : ℕ) → i ≤ j → pairs i ≤ pairs j
+pairs-le i zero h = let e : i ≡ 0 = omega arith in let q = ap pairs e in omega arith
+pairs-le i (suc j) h =
+    ⊎-elim (λ e. let q = ap pairs e in omega arith) (λ e. let l = pairs-le i j (omega arith) in omega arith) (cases-eq i (suc j))
+
+-- the first 23 letters have at most 253 pairs, and up to 32 letters at most 243 more
+pairs-fit : (i : ℕ) → i ≤ 32 → pairs i ≤ 253 + 243 * (i / 24)
+pairs-fit i h =
+    ⊎-elim
+    (λ e.
+    let g = ltb-true i 24 e in
+    let l : pairs i ≤ 253 = pairs-le i 23 (omega arith) in
+    omega arith)
+    (λ e.
+    let g = ltb-false i 24 e in
+    let l : pairs i ≤ 496 = pairs-le i 32 h in
+    omega arith)
+    (cases-bool (ltb i 24))
+
+-- after a pass over i letters, which make the number s: they and the rest w of the word have t inversions; n of them and what 255
+-- leaves of m are counted so far. k is 1 where n holds those of the first 23 letters, and 0 before that
+unfoldable pub Counted : (k i s n m : ℕ) → List ℕ → ℕ → Type 0
+Counted k i s n m w t =
+    (p : List ℕ)
+    × Lettered p
+    × (length p ≡ i)
+    × (packing p ≡ s)
+    × (n ≤ 255 * k)
+    × (m % 255 + 253 * k ≤ pairs i)
+    × (n + m % 255 + crossing p w + inversions w ≡ t)
+
+pub counted-none : (w : List ℕ) → Counted 0 0 0 0 0 w (inversions w)
+unfolding Counted
+counted-none w = let c = crossing-none w in ([], tt, refl, refl, omega arith, omega arith, omega arith)
+
+pub counted-all : (k i s n m t : ℕ) (w : List ℕ) → w ≡ [] → Counted k i s n m w t → n + m % 255 ≡ t
+unfolding Counted
+counted-all k i s n m t w e (p, h, l, q, a, b, c) = let f = ap (λ w. crossing p w + inversions w) e in omega arith
+
+pub counted-cut : (i s n m n′ m′ t : ℕ) (w : List ℕ) → i ≡ 23 → n′ ≡ m % 255 → m′ ≡ 0 → Counted (i / 24) i s n m w t → Counted ((i + 1) / 24) i s n′ m′ w t
+unfolding Counted
+counted-cut i s n m n′ m′ t w e f g (p, h, l, q, a, b, c) =
+    let d : pairs i ≡ 253 = ap pairs e in
+    (p, h, l, q, omega arith, omega arith, omega arith)
+
+pub counted-uncut : (i s n m n′ m′ t : ℕ) (w : List ℕ) → (i ≡ 23 → ⊥) → i < 32 → n′ ≡ n → m′ ≡ m → Counted (i / 24) i s n m w t → Counted ((i + 1) / 24) i s n′ m′ w t
+unfolding Counted
+counted-uncut i s n m n′ m′ t w e r f g (p, h, l, q, a, b, c) =
+    let d : (i + 1) / 24 ≡ i / 24 = omega arith in
+    let o = ap (λ m. m % 255) g in
+    (p, h, l, q, omega arith, omega arith, omega arith)
+
+-- one letter more: what 255 leaves of m and the number of the larger letters before x are less than 255 together
+pub counted-more : (i s n m x u d t : ℕ) (v w : List ℕ) → is-letter x ≡ true → v ≡ x ∷ w → i < 32 → u ≡ 256 ^ (8 - x) → d ≡ s % 256 ^ (8 - x)
+    → Counted ((i + 1) / 24) i s n m v t → Counted ((i + 1) / 24) (i + 1) (s + u) n (m + d) w t
+unfolding Counted
+counted-more i s n m x u d t v w y z r f g (p, h, l, q, a, b, c) =
+    let j : d % 255 ≡ above x p = ap (λ d. d % 255) g ∙ ap (λ s. s % 256 ^ (8 - x) % 255) (sym q) ∙ digits-above x p y h (omega arith) in
+    let sum : (m + d) % 255 ≡ m % 255 + above x p = added i m d (above x p) (let o = above-le x p in omega arith) r j b in
+    let more = crossing-more x p w in
+    let e = ap (λ w. crossing p w + inversions w) z in
+    (x ∷ p, (y, h), omega arith, omega arith, a, grown i m d (above x p) (let o = above-le x p in omega arith) sum b, omega arith)
+  where
+    added : (i m d a : ℕ) → a ≤ i → i < 32 → d % 255 ≡ a → m % 255 + 253 * ((i + 1) / 24) ≤ pairs i → (m + d) % 255 ≡ m % 255 + a
+    added i m d a l r e b =
+        let o : i + 1 ≡ suc i = omega arith in
+        let q : pairs (i + 1) ≡ i + pairs i = ap pairs o in
+        let f = pairs-fit (i + 1) (omega arith) in
+        let h : m % 255 + a < 255 = omega arith in
+        add-mod m d 255 ∙ ap (λ c. (m % 255 + c) % 255) e ∙ mod-eq-of-lt h
+
+    grown : (i m d a : ℕ) → a ≤ i → (m + d) % 255 ≡ m % 255 + a → m % 255 + 253 * ((i + 1) / 24) ≤ pairs i → (m + d) % 255 + 253 * ((i + 1) / 24) ≤ pairs (i + 1)
+    grown i m d a l e b =
+        let o : i + 1 ≡ suc i = omega arith in
+        let q : pairs (i + 1) ≡ i + pairs i = ap pairs o in
+        omega arith

@@ -30,22 +30,32 @@ pub fn row_length(row: &Row) -> usize
     n
 }
 
+// The letters before this place have at most 253 inversions, and those from it to the end of a row add at most 243.
+const REDUCE_AT: usize = 23;
+
 // How many pairs of places have the larger letter on the left. The letters so far are counted in the bytes of one number, that of x1 the
-// highest; below the byte of a letter are those of the larger letters, and their sum is what 255 leaves of them.
+// highest; below the byte of a letter are those of the larger letters. These low parts are added up, and what 255 leaves of a sum is the
+// sum of its bytes as long as that is less than 255, so two remainders do for a whole row.
 pub fn row_inversions(row: &Row) -> usize
     ensures { λ r. ⌜ r ≡ inversions-of (letters (now (row .entry))) ⌝ }
 {
     let mut seen = 0u64;
+    let mut sum = 0u64;
     let mut n = 0;
-    for x in row {
-        if !is_letter(*x) {
-            return n;
+    for i in 0..ROW_LENGTH {
+        let x = row[i];
+        if !is_letter(x) {
+            return n + (sum % 255) as usize;
         }
-        let unit = 1u64 << (64 - 8 * *x);
-        n += ((seen & (unit - 1)) % 255) as usize;
+        if i == REDUCE_AT {
+            n = (sum % 255) as usize;
+            sum = 0;
+        }
+        let unit = 1u64 << (64 - 8 * x);
+        sum += seen & (unit - 1);
         seen += unit;
     }
-    n
+    n + (sum % 255) as usize
 }
 
 // The place, counted from 0, of the left letter of the leftmost inversion of neighbours.

@@ -1,9 +1,13 @@
-use mathlib.Core.Path.{_≡_}
-use Prim.Native.Nat.{_+_, _*_, _^_, _≤_}
+use Prim.Native.Nat.{_*_, _/_, _^_, _≤_}
 use lib.ListN.{drop}
 use Rattle.orders.specs.Letters.{letters}
-use Rattle.words.proofs.Casting.{run}
+use Rattle.words.specs.Inversions.{inversions}
+use Rattle.words.proofs.Casting.{Counted}
 use Rattle.words.proofs.row.row_inversions.Given as given
 
-abbrev pub Inv-loop-x : given.InvT-loop-x
-Inv-loop-x l = (l .seen ≤ 256 ^ 7 * l .x-index) × (l .n ≤ 255 * l .x-index) × (l .n + run (l .seen) (letters (drop (l .x-index) (l .row))) ≡ run 0 (letters (l .row)))
+abbrev pub Inv-loop-i : given.InvT-loop-i
+Inv-loop-i l =
+    (l .seen ≤ 256 ^ 7 * l .i)
+    × (l .sum ≤ 256 ^ 7 * l .i)
+    × (l .n ≤ 255)
+    × Counted (l .i / 24) (l .i) (l .seen) (l .n) (l .sum) (letters (drop (l .i) (l .row))) (inversions (letters (l .row)))
