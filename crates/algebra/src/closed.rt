@@ -6,6 +6,7 @@ use relations::count::Count;
 use run::relation::Table;
 
 // A ring, an order, how many generators there are, the relation of each pair, and what is known of the algebra.
+#[derive(Drop)]
 pub struct Closed<R, O> {
     ring: R,
     order: O,
@@ -26,6 +27,12 @@ impl<R, O> Closed<R, O> {
             table,
             verdict: Verdict::Undecided,
         }
+    }
+
+    pub fn ring(&self) -> &R
+        ensures { λ r. ⌜ now r ≡ now (self .entry) .ring ⌝ }
+    {
+        &self.ring
     }
 
     pub fn verdict(&self) -> Verdict

@@ -1,16 +1,9 @@
-// The calculator. It adds and multiplies two linear combinations of words over each coefficient ring, compares their words under both
-// orders, and shows a refusal.
-mod combination;
+// The calculator. It declares relations, decides whether they agree, and multiplies; it shows relations that do not agree being refused.
+mod refused;
+mod session;
 mod text;
 
 use coefficients::ring::Ring;
-use combination::Refused;
-use combination::RefusedFromMemory;
-use combination::RefusedFromRing;
-use combination::RefusedFromWord;
-use combination::product;
-use combination::read;
-use combination::sum;
 use integers::integers::Integers;
 use integers::integers::IntegersRing;
 use orders::degree::Degree;
@@ -21,138 +14,171 @@ use orders::order::MonomialOrder;
 use orders::weight::Weight;
 use qpolynomials::qpolynomials::QPolynomials;
 use qpolynomials::qpolynomials::QPolynomialsRing;
+use refused::Refused;
+use relations::count::Count;
+use relations::open::Open;
 use residues::residues::Residues;
 use residues::residues::ResiduesRing;
-use std::alloc::Global;
-use std::cmp::Ordering;
+use session::Written;
+use session::decided;
+use session::declare_all;
+use session::product_text;
 use std::io;
-use text::list_text;
-use text::word_text;
-use words::word::Word;
-use words::word::WordFault;
+use text::Part;
 
-// The coefficients of two combinations, as they are written.
-struct Written<'a> {
-    f: (&'a [u8], &'a [u8]),
-    g: (&'a [u8], &'a [u8]),
+// What is to be done in an algebra.
+#[derive(Clone, Copy)]
+struct Example<'a> {
+    name: &'a str,
+    relations: &'a [Written<'a>],
+    first: &'a [Part<'a>],
+    second: &'a [Part<'a>],
 }
 
-// Both combinations, their sum and their product, a line each.
-fn calculated<R: Ring>(
-    heap: Global,
-    ring: &R,
-    words: &[Word; 2],
-    written: &Written,
-) -> Result<String, Refused> {
-    let f = read(ring, words, written.f.0, written.f.1)?;
-    let g = read(ring, words, written.g.0, written.g.1)?;
-    let f_text = list_text(heap, ring, &f)?;
-    let g_text = list_text(heap, ring, &g)?;
-    let sum_text = list_text(heap, ring, &sum(ring, &f, &g)?)?;
-    let product_text = list_text(heap, ring, &product(ring, &f, &g)?)?;
-    Ok(
-        format!(
-            heap,
-            "f = {f_text}\ng = {g_text}\nf + g = {sum_text}\nf g = {product_text}\n"
-        )?,
-    )
-}
-
-fn show<R: Ring>(
-    rt: &LibcRuntime,
-    name: &str,
-    ring: &R,
-    words: &[Word; 2],
-    written: &Written,
-) -> io::Result<()> {
-    println!(rt, "{name}")?;
-    match calculated(rt.alloc(), ring, words, written) {
-        Ok(text) => print!(rt, "{text}"),
-        Err(e) => match e.refusal() {
-            Some(r) => {
-                let (number, layer) = (r.number, r.layer);
-                println!(rt, "refused {number}, layer {layer}")
-            }
-            None => println!(rt, "no memory"),
-        },
+fn show_refusal(rt: &LibcRuntime, refused: &Refused) -> io::Result<()> {
+    match refused.refusal() {
+        Some(r) => {
+            let (number, layer, step, a, b, e) = (r.number, r.layer, r.step, r.a, r.b, r.e);
+            println!(
+                rt,
+                "refused {number}, layer {layer}, step {step}, a {a}, b {b}, e {e}"
+            )
+        }
+        None => println!(rt, "no memory"),
     }
 }
 
-// Which of two words comes first.
-fn compared<O: MonomialOrder>(
+fn show<R: Ring + Drop, O: MonomialOrder + Drop>(
     rt: &LibcRuntime,
-    name: &str,
-    order: &O,
-    words: &[Word; 2],
+    count: Count,
+    ring: R,
+    order: O,
+    example: &Example,
 ) -> io::Result<()> {
-    let first = word_text(rt.alloc(), &words[0])?;
-    let second = word_text(rt.alloc(), &words[1])?;
-    let place = match words[0].compare(order, &words[1]) {
-        Ordering::Less => "before",
-        Ordering::Equal => "same as",
-        Ordering::Greater => "after",
+    let name = example.name;
+    println!(rt, "{name}")?;
+    let mut open = Open::new(count, ring, order);
+    if let Err(e) = declare_all(rt.alloc(), &mut open, example.relations) {
+        return show_refusal(rt, &e);
+    }
+    let algebra = match decided(rt.alloc(), open) {
+        Ok((algebra, verdict)) => {
+            println!(rt, "{verdict}")?;
+            algebra
+        }
+        Err(e) => return show_refusal(rt, &e),
     };
-    println!(rt, "{name}:{first} {place}{second}")
+    match product_text(rt.alloc(), &algebra, example.first, example.second) {
+        Ok(line) => println!(rt, "{line}"),
+        Err(e) => show_refusal(rt, &e),
+    }
 }
 
-// x2 x2 and x1.
-fn two_words() -> Result<[Word; 2], WordFault> {
-    let mut first = Word::empty();
-    first.push(2)?;
-    first.push(2)?;
-    let mut second = Word::empty();
-    second.push(1)?;
-    Ok([first, second])
+// f e in U(sl2) with x1, x2, x3 for e, f, h; x3 x2 = x2 x3 + last x2.
+fn show_sl2<R: Ring + Drop, O: MonomialOrder + Drop>(
+    rt: &LibcRuntime,
+    ring: R,
+    order: O,
+    name: &str,
+    last: &[u8],
+) -> io::Result<()> {
+    let Ok(three) = Count::new(3) else {
+        return Ok(());
+    };
+    let example = Example {
+        name,
+        relations: &[
+            Written {
+                j: 2,
+                i: 1,
+                factor: b"1",
+                tail: &[Part {
+                    coefficient: b"-1",
+                    letters: &[3],
+                }],
+            },
+            Written {
+                j: 3,
+                i: 1,
+                factor: b"1",
+                tail: &[Part {
+                    coefficient: b"2",
+                    letters: &[1],
+                }],
+            },
+            Written {
+                j: 3,
+                i: 2,
+                factor: b"1",
+                tail: &[Part {
+                    coefficient: last,
+                    letters: &[2],
+                }],
+            },
+        ],
+        first: &[Part {
+            coefficient: b"1",
+            letters: &[2, 2],
+        }],
+        second: &[Part {
+            coefficient: b"1",
+            letters: &[1, 1],
+        }],
+    };
+    show(rt, three, ring, order, &example)
+}
+
+// x2 x2 times x1 x1 where x2 x1 = factor x1 x2 + tail.
+fn show_pair<R: Ring + Drop, O: MonomialOrder + Drop>(
+    rt: &LibcRuntime,
+    ring: R,
+    order: O,
+    name: &str,
+    factor: &[u8],
+    tail: &[Part],
+) -> io::Result<()> {
+    let Ok(two) = Count::new(2) else {
+        return Ok(());
+    };
+    let example = Example {
+        name,
+        relations: &[Written {
+            j: 2,
+            i: 1,
+            factor,
+            tail,
+        }],
+        first: &[Part {
+            coefficient: b"1",
+            letters: &[2, 2],
+        }],
+        second: &[Part {
+            coefficient: b"1",
+            letters: &[1, 1],
+        }],
+    };
+    show(rt, two, ring, order, &example)
 }
 
 fn main(rt: LibcRuntime) -> io::Result<()> {
-    let Ok(words) = two_words() else {
+    let Ok(one) = Weight::new(1) else {
         return Ok(());
     };
-    compared(&rt, "lex", &Lex, &words)?;
-    if let Ok(one) = Weight::new(1) {
-        compared(&rt, "degree", &Degree::new([one; 8]), &words)?;
-    }
+    let degree = Degree::new([one; 8]);
+    let weyl = [Part {
+        coefficient: b"1",
+        letters: &[],
+    }];
+    let cube = [Part {
+        coefficient: b"1",
+        letters: &[2, 2, 2],
+    }];
+    show_pair(&rt, Integers, degree, "Weyl algebra over the integers", b"1", &weyl)?;
+    show_pair(&rt, QPolynomials, Lex, "quantum plane over q-polynomials", b"10", &[])?;
+    show_sl2(&rt, Integers, degree, "U(sl2) over the integers", b"-2")?;
     if let Ok(ring) = Residues::new(7) {
-        show(
-            &rt,
-            "residues modulo 7",
-            &ring,
-            &words,
-            &Written {
-                f: (b"5", b"6"),
-                g: (b"4", b"3"),
-            },
-        )?;
+        show_sl2(&rt, ring, Lex, "U(sl2) over residues modulo 7", b"5")?;
     }
-    show(
-        &rt,
-        "integers",
-        &Integers,
-        &words,
-        &Written {
-            f: (b"2", b"-3"),
-            g: (b"5", b"4"),
-        },
-    )?;
-    show(
-        &rt,
-        "q-polynomials",
-        &QPolynomials,
-        &words,
-        &Written {
-            f: (b"10", b"11"),
-            g: (b"111", b"1"),
-        },
-    )?;
-    show(
-        &rt,
-        "integers",
-        &Integers,
-        &words,
-        &Written {
-            f: (b"2147483647", b"1"),
-            g: (b"1", b"1"),
-        },
-    )
+    show_sl2(&rt, Integers, degree, "U(sl2) with half of a tail", b"-1")?;
+    show_pair(&rt, Integers, degree, "a tail that does not come before", b"1", &cube)
 }

@@ -1,16 +1,48 @@
-// Words and terms as text.
-use crate::combination::Refused;
-use crate::combination::RefusedFromMemory;
-use crate::combination::RefusedFromRing;
-use crate::combination::RefusedFromWord;
+// Lists of terms, from text and as text.
+use crate::refused::Refused;
+use crate::refused::RefusedFromMemory;
+use crate::refused::RefusedFromRing;
+use crate::refused::RefusedFromWord;
 use coefficients::ring::Ring;
 use std::alloc::AllocError;
 use std::alloc::Global;
 use words::term::Term;
 use words::word::Word;
 
+// A coefficient and the letters of a word, as they are written.
+#[derive(Clone, Copy)]
+pub struct Part<'a> {
+    pub coefficient: &'a [u8],
+    pub letters: &'a [u64],
+}
+
+// The word of these letters.
+fn word(letters: &[u64]) -> Result<Word, Refused> {
+    let mut word = Word::empty();
+    for letter in letters {
+        word.push(*letter)?;
+    }
+    Ok(word)
+}
+
+fn push(list: &mut Vec<Term>, term: Term) -> Result<(), AllocError> {
+    list.push(term)?;
+    Ok(())
+}
+
+// The terms that are written.
+pub fn terms<R: Ring>(heap: Global, ring: &R, parts: &[Part]) -> Result<Vec<Term>, Refused> {
+    let mut list = Vec::new(heap);
+    for part in parts {
+        let code = ring.read(part.coefficient)?;
+        let row = word(part.letters)?.row();
+        push(&mut list, Term { row, code })?;
+    }
+    Ok(list)
+}
+
 // The letters, each as x and its number.
-pub fn word_text(heap: Global, word: &Word) -> Result<String, AllocError> {
+fn word_text(heap: Global, word: &Word) -> Result<String, AllocError> {
     let mut text = String::new(heap);
     for letter in word.row().iter().take(word.len()) {
         text.push_str(format!(heap, " x{letter}")?.as_str())?;
@@ -30,10 +62,15 @@ fn term_text<R: Ring>(heap: Global, ring: &R, term: &Term) -> Result<String, Ref
     Ok(text)
 }
 
-// The terms in brackets.
-pub fn list_text<R: Ring>(heap: Global, ring: &R, terms: &[Term]) -> Result<String, Refused> {
+// The first n terms, in brackets.
+pub fn list_text<R: Ring>(
+    heap: Global,
+    ring: &R,
+    terms: &[Term],
+    n: usize,
+) -> Result<String, Refused> {
     let mut text = String::from_str(heap, "(list")?;
-    for term in terms {
+    for term in terms.iter().take(n) {
         let one = term_text(heap, ring, term)?;
         text.push_str(format!(heap, " ({one})")?.as_str())?;
     }
