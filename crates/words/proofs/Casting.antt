@@ -3,16 +3,18 @@ use mathlib.Core.Path.{_≡_, refl, ap, ap₂, sym, _∙_}
 use mathlib.Core.List.{List, [], _∷_}
 use mathlib.Core.Bool.{Bool, true, cond}
 use mathlib.Core.Logic.{⊎-elim}
-use Prim.Native.Nat.{ℕ, zero, suc, _+_, _-_, _*_, _/_, _%_, _^_, _<_, _≤_}
+use Prim.Native.Nat.{ℕ, zero, suc, _+_, _-_, _*_, _%_, _^_, _<_, _≤_}
 use native.Mathlib.Omega.{arith}
-use native.Mathlib.Nat.{pow-suc, mul-add, mul-assoc, mul-comm, mod-eq-of-lt, mul-add-mod-self-left, mul-add-mod-self-right, add-mod}
+use native.Mathlib.Nat.{pow-suc, mul-add, mul-assoc, mul-comm, mod-eq-of-lt, mul-add-mod-self-left, mul-add-mod-self-right, add-mod, mod-lt, one-le-pow}
 use lib.Pow.{pow-add}
 use lib.Dec.{ltb}
-use lib.ListN.{length}
+use lib.ListN.{length, getD, drop}
+use lib.Bits.{bitAnd}
 use Rattle.std.proofs.shelf.Tests.{cases-eq, cases-bool, ltb-true, ltb-false}
-use Rattle.orders.specs.Letters.{is-letter, count}
-use Rattle.orders.proofs.Packing.{packing, total, total-lt, packing-total, count-same, count-other, Lettered}
-use Rattle.orders.proofs.Steps.{letter-bounds}
+use Rattle.std.proofs.shelf.Bits.{one-shl, and-mask}
+use Rattle.orders.specs.Letters.{letters, is-letter, count}
+use Rattle.orders.proofs.Packing.{packing, total, total-lt, packing-total, count-same, count-other, Lettered, unit-of, unit-le}
+use Rattle.orders.proofs.Steps.{letters-go, letter-bounds}
 use Rattle.words.specs.Inversions.{below, inversions}
 
 -- the last bytes of the number
@@ -159,74 +161,77 @@ pairs-le i zero h = let e : i ≡ 0 = omega arith in let q = ap pairs e in omega
 pairs-le i (suc j) h =
     ⊎-elim (λ e. let q = ap pairs e in omega arith) (λ e. let l = pairs-le i j (omega arith) in omega arith) (cases-eq i (suc j))
 
--- the first 23 letters have at most 253 pairs, and up to 32 letters at most 243 more
-pairs-fit : (i : ℕ) → i ≤ 32 → pairs i ≤ 253 + 243 * (i / 24)
-pairs-fit i h =
-    ⊎-elim
-    (λ e.
-    let g = ltb-true i 24 e in
-    let l : pairs i ≤ 253 = pairs-le i 23 (omega arith) in
-    omega arith)
-    (λ e.
-    let g = ltb-false i 24 e in
-    let l : pairs i ≤ 496 = pairs-le i 32 h in
-    omega arith)
-    (cases-bool (ltb i 24))
+pub pairs-first : (i : ℕ) → i ≤ 23 → pairs i ≤ 254
+pairs-first i h = let l : pairs i ≤ 253 = pairs-le i 23 h in omega arith
+
+pub pairs-row : (i : ℕ) → i ≤ 32 → pairs i ≤ 254 + 253
+pairs-row i h = let l : pairs i ≤ 496 = pairs-le i 32 h in omega arith
 
 -- after a pass over i letters, which make the number s: they and the rest w of the word have t inversions; n of them and what 255
 -- leaves of m are counted so far. k is 1 where n holds those of the first 23 letters, and 0 before that
 unfoldable pub Counted : (k i s n m : ℕ) → List ℕ → ℕ → Type 0
 Counted k i s n m w t =
-    (p : List ℕ)
-    × Lettered p
-    × (length p ≡ i)
-    × (packing p ≡ s)
-    × (n ≤ 255 * k)
-    × (m % 255 + 253 * k ≤ pairs i)
-    × (n + m % 255 + crossing p w + inversions w ≡ t)
+    (p : List ℕ) × Lettered p × (length p ≡ i) × (packing p ≡ s) × (m % 255 + 253 * k ≤ pairs i) × (n + m % 255 + crossing p w + inversions w ≡ t)
 
 pub counted-none : (w : List ℕ) → Counted 0 0 0 0 0 w (inversions w)
 unfolding Counted
-counted-none w = let c = crossing-none w in ([], tt, refl, refl, omega arith, omega arith, omega arith)
+counted-none w = let c = crossing-none w in ([], tt, refl, refl, omega arith, omega arith)
 
 pub counted-all : (k i s n m t : ℕ) (w : List ℕ) → w ≡ [] → Counted k i s n m w t → n + m % 255 ≡ t
 unfolding Counted
-counted-all k i s n m t w e (p, h, l, q, a, b, c) = let f = ap (λ w. crossing p w + inversions w) e in omega arith
+counted-all k i s n m t w e (p, h, l, q, b, c) = let f = ap (λ w. crossing p w + inversions w) e in omega arith
 
-pub counted-cut : (i s n m n′ m′ t : ℕ) (w : List ℕ) → i ≡ 23 → n′ ≡ m % 255 → m′ ≡ 0 → Counted (i / 24) i s n m w t → Counted ((i + 1) / 24) i s n′ m′ w t
+pub counted-cut : (i s m t : ℕ) (row : List ℕ) → i ≡ 23 → Counted 0 i s 0 m (letters (drop i row)) t → Counted 1 23 s (m % 255) 0 (letters (drop 23 row)) t
 unfolding Counted
-counted-cut i s n m n′ m′ t w e f g (p, h, l, q, a, b, c) =
-    let d : pairs i ≡ 253 = ap pairs e in
-    (p, h, l, q, omega arith, omega arith, omega arith)
-
-pub counted-uncut : (i s n m n′ m′ t : ℕ) (w : List ℕ) → (i ≡ 23 → ⊥) → i < 32 → n′ ≡ n → m′ ≡ m → Counted (i / 24) i s n m w t → Counted ((i + 1) / 24) i s n′ m′ w t
-unfolding Counted
-counted-uncut i s n m n′ m′ t w e r f g (p, h, l, q, a, b, c) =
-    let d : (i + 1) / 24 ≡ i / 24 = omega arith in
-    let o = ap (λ m. m % 255) g in
-    (p, h, l, q, omega arith, omega arith, omega arith)
+counted-cut i s m t row e (p, h, l, q, b, c) =
+    let f = ap (λ i. crossing p (letters (drop i row)) + inversions (letters (drop i row))) e in
+    (p, h, omega arith, q, omega arith, omega arith)
 
 -- one letter more: what 255 leaves of m and the number of the larger letters before x are less than 255 together
-pub counted-more : (i s n m x u d t : ℕ) (v w : List ℕ) → is-letter x ≡ true → v ≡ x ∷ w → i < 32 → u ≡ 256 ^ (8 - x) → d ≡ s % 256 ^ (8 - x)
-    → Counted ((i + 1) / 24) i s n m v t → Counted ((i + 1) / 24) (i + 1) (s + u) n (m + d) w t
+counted-more : (k i s n m x u d t : ℕ) (v w : List ℕ) → is-letter x ≡ true → v ≡ x ∷ w → i < 255 → pairs (i + 1) ≤ 254 + 253 * k → u ≡ 256 ^ (8 - x)
+    → d ≡ s % 256 ^ (8 - x) → Counted k i s n m v t → Counted k (i + 1) (s + u) n (m + d) w t
 unfolding Counted
-counted-more i s n m x u d t v w y z r f g (p, h, l, q, a, b, c) =
-    let j : d % 255 ≡ above x p = ap (λ d. d % 255) g ∙ ap (λ s. s % 256 ^ (8 - x) % 255) (sym q) ∙ digits-above x p y h (omega arith) in
-    let sum : (m + d) % 255 ≡ m % 255 + above x p = added i m d (above x p) (let o = above-le x p in omega arith) r j b in
+counted-more k i s n m x u d t v w y z r f g o (p, h, l, q, b, c) =
+    let j : d % 255 ≡ above x p = ap (λ d. d % 255) o ∙ ap (λ s. s % 256 ^ (8 - x) % 255) (sym q) ∙ digits-above x p y h (omega arith) in
+    let a : above x p ≤ i = let a = above-le x p in omega arith in
+    let sum = added m d (above x p) a j b in
     let more = crossing-more x p w in
     let e = ap (λ w. crossing p w + inversions w) z in
-    (x ∷ p, (y, h), omega arith, omega arith, a, grown i m d (above x p) (let o = above-le x p in omega arith) sum b, omega arith)
+    (x ∷ p, (y, h), omega arith, omega arith, sum .1, let q = sum .0 in omega arith)
   where
-    added : (i m d a : ℕ) → a ≤ i → i < 32 → d % 255 ≡ a → m % 255 + 253 * ((i + 1) / 24) ≤ pairs i → (m + d) % 255 ≡ m % 255 + a
-    added i m d a l r e b =
+    added : (m d a : ℕ) → a ≤ i → d % 255 ≡ a → m % 255 + 253 * k ≤ pairs i → ((m + d) % 255 ≡ m % 255 + a) × ((m + d) % 255 + 253 * k ≤ pairs (i + 1))
+    added m d a l e b =
         let o : i + 1 ≡ suc i = omega arith in
         let q : pairs (i + 1) ≡ i + pairs i = ap pairs o in
-        let f = pairs-fit (i + 1) (omega arith) in
         let h : m % 255 + a < 255 = omega arith in
-        add-mod m d 255 ∙ ap (λ c. (m % 255 + c) % 255) e ∙ mod-eq-of-lt h
+        let r : (m + d) % 255 ≡ m % 255 + a = add-mod m d 255 ∙ ap (λ c. (m % 255 + c) % 255) e ∙ mod-eq-of-lt h in
+        (r, omega arith)
 
-    grown : (i m d a : ℕ) → a ≤ i → (m + d) % 255 ≡ m % 255 + a → m % 255 + 253 * ((i + 1) / 24) ≤ pairs i → (m + d) % 255 + 253 * ((i + 1) / 24) ≤ pairs (i + 1)
-    grown i m d a l e b =
-        let o : i + 1 ≡ suc i = omega arith in
-        let q : pairs (i + 1) ≡ i + pairs i = ap pairs o in
-        omega arith
+-- the unit of a letter, as it is shifted
+abbrev pub shifted : ℕ → ℕ
+shifted x = (1 * 2 ^ (64 - 8 * x)) % 2 ^ 64
+
+shifted-is : (x : ℕ) → is-letter x ≡ true → shifted x ≡ 2 ^ (64 - 8 * x)
+shifted-is x t = let b = letter-bounds x t in one-shl (64 - 8 * x) 64 (omega arith)
+
+pub shifted-le : (x : ℕ) → is-letter x ≡ true → shifted x ≤ 256 ^ 7
+shifted-le x t =
+    let b = letter-bounds x t in
+    let s = shifted-is x t in
+    let u = unit-of x (b .1) in
+    let l = unit-le x (b .0) in
+    omega arith
+
+pub counted-next : (k i s n m t : ℕ) (row : List ℕ) → is-letter (getD row i 0) ≡ true → i < length row → i < 255 → pairs (i + 1) ≤ 254 + 253 * k → m ≤ 256 ^ 7 * i
+    → Counted k i s n m (letters (drop i row)) t
+    → (m + bitAnd s (shifted (getD row i 0) - 1) ≤ 256 ^ 7 * (i + 1))
+    × Counted k (i + 1) (s + shifted (getD row i 0)) n (m + bitAnd s (shifted (getD row i 0) - 1)) (letters (drop (i + 1) row)) t
+counted-next k i s n m t row y l r f b c =
+    let x = getD row i 0 in
+    let e = unit-of x (letter-bounds x y .1) in
+    let a : bitAnd s (shifted x - 1) ≡ s % 2 ^ (64 - 8 * x) = ap (λ n. bitAnd s (n - 1)) (shifted-is x y) ∙ and-mask s (64 - 8 * x) in
+    let d = a ∙ ap (λ n. s % n) e in
+    let g = mod-lt s {m = 256 ^ (8 - x)} (one-le-pow (8 - x) 256 (omega arith)) in
+    let h = unit-le x (letter-bounds x y .0) in
+    let more = counted-more k i s n m x (shifted x) (bitAnd s (shifted x - 1)) t (letters (drop i row)) (letters (drop (i + 1) row)) y (letters-go row i l y) r f (shifted-is x y ∙ e) d c in
+    (omega arith, more)

@@ -35,23 +35,30 @@ const REDUCE_AT: usize = 23;
 
 // How many pairs of places have the larger letter on the left. The letters so far are counted in the bytes of one number, that of x1 the
 // highest; below the byte of a letter are those of the larger letters. These low parts are added up, and what 255 leaves of a sum is the
-// sum of its bytes as long as that is less than 255, so two remainders do for a whole row.
+// sum of its bytes as long as that is less than 255, so two remainders do for a whole row. There are two loops because an optimizer
+// may take the remainder at every letter where one loop tests the place.
 pub fn row_inversions(row: &Row) -> usize
     ensures { λ r. ⌜ r ≡ inversions-of (letters (now (row .entry))) ⌝ }
 {
     let mut seen = 0u64;
     let mut sum = 0u64;
-    let mut n = 0;
-    for i in 0..ROW_LENGTH {
+    for i in 0..REDUCE_AT {
         let x = row[i];
         if !is_letter(x) {
-            return n + (sum % 255) as usize;
-        }
-        if i == REDUCE_AT {
-            n = (sum % 255) as usize;
-            sum = 0;
+            return (sum % 255) as usize;
         }
         let unit = 1u64 << (64 - 8 * x);
+        sum += seen & (unit - 1);
+        seen += unit;
+    }
+    let n = (sum % 255) as usize;
+    sum = 0;
+    for j in REDUCE_AT..ROW_LENGTH {
+        let y = row[j];
+        if !is_letter(y) {
+            return n + (sum % 255) as usize;
+        }
+        let unit = 1u64 << (64 - 8 * y);
         sum += seen & (unit - 1);
         seen += unit;
     }
