@@ -19,21 +19,11 @@ use relations::count::Count;
 use relations::open::Open;
 use residues::residues::Residues;
 use residues::residues::ResiduesRing;
-use session::Written;
 use session::decided;
-use session::declare_all;
+use session::declare_factor;
+use session::declare_tail;
 use session::product_text;
 use std::io;
-use text::Part;
-
-// What is to be done in an algebra.
-#[derive(Clone, Copy)]
-struct Example<'a> {
-    name: &'a str,
-    relations: &'a [Written<'a>],
-    first: &'a [Part<'a>],
-    second: &'a [Part<'a>],
-}
 
 fn show_refusal(rt: &LibcRuntime, refused: &Refused) -> io::Result<()> {
     match refused.refusal() {
@@ -48,116 +38,81 @@ fn show_refusal(rt: &LibcRuntime, refused: &Refused) -> io::Result<()> {
     }
 }
 
-fn show<R: Ring + Drop, O: MonomialOrder + Drop>(
+// Decides an algebra and multiplies two words in it.
+fn show_product<R: Ring + Drop, O: MonomialOrder + Drop>(
     rt: &LibcRuntime,
-    count: Count,
-    ring: R,
-    order: O,
-    example: &Example,
+    open: Open<R, O>,
+    first: &[u64],
+    second: &[u64],
 ) -> io::Result<()> {
-    let name = example.name;
-    println!(rt, "{name}")?;
-    let mut open = Open::new(count, ring, order);
-    if let Err(e) = declare_all(rt.alloc(), &mut open, example.relations) {
-        return show_refusal(rt, &e);
-    }
-    let algebra = match decided(rt.alloc(), open) {
+    match decided(rt.alloc(), open) {
         Ok((algebra, verdict)) => {
             println!(rt, "{verdict}")?;
-            algebra
+            match product_text(rt.alloc(), &algebra, first, second) {
+                Ok(line) => println!(rt, "{line}"),
+                Err(e) => show_refusal(rt, &e),
+            }
         }
-        Err(e) => return show_refusal(rt, &e),
-    };
-    match product_text(rt.alloc(), &algebra, example.first, example.second) {
-        Ok(line) => println!(rt, "{line}"),
         Err(e) => show_refusal(rt, &e),
     }
 }
 
-// f e in U(sl2) with x1, x2, x3 for e, f, h; x3 x2 = x2 x3 + last x2.
+// U(sl2), x1, x2 and x3 for e, f and h; the tail of x3 x2 is `last` times x2.
+fn sl2<R: Ring + Drop, O: MonomialOrder + Drop>(
+    count: Count,
+    ring: R,
+    order: O,
+    last: &[u8],
+) -> Result<Open<R, O>, Refused> {
+    let mut open = Open::new(count, ring, order);
+    declare_tail(&mut open, 2, 1, b"-1", &[3])?;
+    declare_tail(&mut open, 3, 1, b"2", &[1])?;
+    declare_tail(&mut open, 3, 2, last, &[2])?;
+    Ok(open)
+}
+
 fn show_sl2<R: Ring + Drop, O: MonomialOrder + Drop>(
     rt: &LibcRuntime,
     ring: R,
     order: O,
-    name: &str,
     last: &[u8],
 ) -> io::Result<()> {
     let Ok(three) = Count::new(3) else {
         return Ok(());
     };
-    let example = Example {
-        name,
-        relations: &[
-            Written {
-                j: 2,
-                i: 1,
-                factor: b"1",
-                tail: &[Part {
-                    coefficient: b"-1",
-                    letters: &[3],
-                }],
-            },
-            Written {
-                j: 3,
-                i: 1,
-                factor: b"1",
-                tail: &[Part {
-                    coefficient: b"2",
-                    letters: &[1],
-                }],
-            },
-            Written {
-                j: 3,
-                i: 2,
-                factor: b"1",
-                tail: &[Part {
-                    coefficient: last,
-                    letters: &[2],
-                }],
-            },
-        ],
-        first: &[Part {
-            coefficient: b"1",
-            letters: &[2, 2],
-        }],
-        second: &[Part {
-            coefficient: b"1",
-            letters: &[1, 1],
-        }],
-    };
-    show(rt, three, ring, order, &example)
+    match sl2(three, ring, order, last) {
+        Ok(open) => show_product(rt, open, &[2, 2], &[1, 1]),
+        Err(e) => show_refusal(rt, &e),
+    }
 }
 
-// x2 x2 times x1 x1 where x2 x1 = factor x1 x2 + tail.
+// x2 x1 = x1 x2 and a term with coefficient one.
 fn show_pair<R: Ring + Drop, O: MonomialOrder + Drop>(
     rt: &LibcRuntime,
     ring: R,
     order: O,
-    name: &str,
-    factor: &[u8],
-    tail: &[Part],
+    letters: &[u64],
 ) -> io::Result<()> {
     let Ok(two) = Count::new(2) else {
         return Ok(());
     };
-    let example = Example {
-        name,
-        relations: &[Written {
-            j: 2,
-            i: 1,
-            factor,
-            tail,
-        }],
-        first: &[Part {
-            coefficient: b"1",
-            letters: &[2, 2],
-        }],
-        second: &[Part {
-            coefficient: b"1",
-            letters: &[1, 1],
-        }],
+    let mut open = Open::new(two, ring, order);
+    match declare_tail(&mut open, 2, 1, b"1", letters) {
+        Ok(_) => show_product(rt, open, &[2, 2], &[1, 1]),
+        Err(e) => show_refusal(rt, &e),
+    }
+}
+
+// x2 x1 = q x1 x2.
+fn show_plane(rt: &LibcRuntime) -> io::Result<()> {
+    let Ok(two) = Count::new(2) else {
+        return Ok(());
     };
-    show(rt, two, ring, order, &example)
+    let mut open = Open::new(two, QPolynomials, Lex);
+    match declare_factor(&mut open, 2, 1, b"10") {
+        Ok(_) => show_product(rt, open, &[2, 2], &[1, 1]),
+        Err(e) => show_refusal(rt, &e),
+    }
 }
 
 fn main(rt: LibcRuntime) -> io::Result<()> {
@@ -165,20 +120,18 @@ fn main(rt: LibcRuntime) -> io::Result<()> {
         return Ok(());
     };
     let degree = Degree::new([one; 8]);
-    let weyl = [Part {
-        coefficient: b"1",
-        letters: &[],
-    }];
-    let cube = [Part {
-        coefficient: b"1",
-        letters: &[2, 2, 2],
-    }];
-    show_pair(&rt, Integers, degree, "Weyl algebra over the integers", b"1", &weyl)?;
-    show_pair(&rt, QPolynomials, Lex, "quantum plane over q-polynomials", b"10", &[])?;
-    show_sl2(&rt, Integers, degree, "U(sl2) over the integers", b"-2")?;
+    println!(rt, "Weyl algebra over the integers")?;
+    show_pair(&rt, Integers, degree, &[])?;
+    println!(rt, "quantum plane over q-polynomials")?;
+    show_plane(&rt)?;
+    println!(rt, "U(sl2) over the integers")?;
+    show_sl2(&rt, Integers, degree, b"-2")?;
     if let Ok(ring) = Residues::new(7) {
-        show_sl2(&rt, ring, Lex, "U(sl2) over residues modulo 7", b"5")?;
+        println!(rt, "U(sl2) over residues modulo 7")?;
+        show_sl2(&rt, ring, degree, b"5")?;
     }
-    show_sl2(&rt, Integers, degree, "U(sl2) with half of a tail", b"-1")?;
-    show_pair(&rt, Integers, degree, "a tail that does not come before", b"1", &cube)
+    println!(rt, "U(sl2) with half of a tail")?;
+    show_sl2(&rt, Integers, degree, b"-1")?;
+    println!(rt, "a tail that does not come before x1 x2")?;
+    show_pair(&rt, Integers, degree, &[2, 2, 2])
 }

@@ -1,14 +1,12 @@
-// An algebra from its opening to a product in it.
+// Steps of a session with an algebra, from its declarations to a product in it.
 use crate::refused::Refused;
 use crate::refused::RefusedFromAlgebra;
 use crate::refused::RefusedFromDecide;
 use crate::refused::RefusedFromDeclare;
 use crate::refused::RefusedFromMemory;
 use crate::refused::RefusedFromRing;
-use crate::refused::RefusedFromWord;
-use crate::text::Part;
 use crate::text::list_text;
-use crate::text::terms;
+use crate::text::term;
 use algebra::close::close;
 use algebra::closed::Closed;
 use algebra::verdict::Verdict;
@@ -20,26 +18,29 @@ use words::term::Term;
 
 const PLACES: usize = 64;
 
-// x_j x_i = factor x_i x_j + tail, as it is written.
-#[derive(Clone, Copy)]
-pub struct Written<'a> {
-    pub j: u64,
-    pub i: u64,
-    pub factor: &'a [u8],
-    pub tail: &'a [Part<'a>],
+// x_j x_i = factor x_i x_j.
+pub fn declare_factor<R: Ring, O: MonomialOrder>(
+    open: &mut Open<R, O>,
+    j: u64,
+    i: u64,
+    factor: &[u8],
+) -> Result<(), Refused> {
+    let code = open.ring().read(factor)?;
+    open.declare(j, i, code, &[])?;
+    Ok(())
 }
 
-// Declares the relations, in their order.
-pub fn declare_all<R: Ring, O: MonomialOrder>(
-    heap: Global,
+// x_j x_i = x_i x_j and one term more.
+pub fn declare_tail<R: Ring, O: MonomialOrder>(
     open: &mut Open<R, O>,
-    relations: &[Written],
+    j: u64,
+    i: u64,
+    coefficient: &[u8],
+    letters: &[u64],
 ) -> Result<(), Refused> {
-    for relation in relations {
-        let factor = open.ring().read(relation.factor)?;
-        let tail = terms(heap, open.ring(), relation.tail)?;
-        open.declare(relation.j, relation.i, factor, tail.as_slice())?;
-    }
+    let one = open.ring().one();
+    let tail = [term(open.ring(), coefficient, letters)?];
+    open.declare(j, i, one, &tail)?;
     Ok(())
 }
 
@@ -59,20 +60,20 @@ pub fn decided<R: Ring + Drop, O: MonomialOrder + Drop>(
     Ok((closed, text))
 }
 
-// The product of two lists and how many steps it took.
+// The product of two words, and how many steps it took.
 pub fn product_text<R: Ring, O: MonomialOrder>(
     heap: Global,
     algebra: &Closed<R, O>,
-    first: &[Part],
-    second: &[Part],
+    first: &[u64],
+    second: &[u64],
 ) -> Result<String, Refused> {
-    let f = terms(heap, algebra.ring(), first)?;
-    let g = terms(heap, algebra.ring(), second)?;
+    let f = [term(algebra.ring(), b"1", first)?];
+    let g = [term(algebra.ring(), b"1", second)?];
     let mut work = [Term::blank(); PLACES];
     let mut out = [Term::blank(); PLACES];
-    let (n, steps) = algebra.product(f.as_slice(), g.as_slice(), &mut work, &mut out)?;
-    let f_text = list_text(heap, algebra.ring(), f.as_slice(), f.len())?;
-    let g_text = list_text(heap, algebra.ring(), g.as_slice(), g.len())?;
+    let (n, steps) = algebra.product(&f, &g, &mut work, &mut out)?;
+    let f_text = list_text(heap, algebra.ring(), &f, 1)?;
+    let g_text = list_text(heap, algebra.ring(), &g, 1)?;
     let text = list_text(heap, algebra.ring(), &out, n)?;
     Ok(format!(heap, "{f_text} {g_text} = {text} in {steps} steps")?)
 }

@@ -1,4 +1,4 @@
-// Lists of terms, from text and as text.
+// Terms from text, and lists of terms as text.
 use crate::refused::Refused;
 use crate::refused::RefusedFromMemory;
 use crate::refused::RefusedFromRing;
@@ -9,13 +9,6 @@ use std::alloc::Global;
 use words::term::Term;
 use words::word::Word;
 
-// A coefficient and the letters of a word, as they are written.
-#[derive(Clone, Copy)]
-pub struct Part<'a> {
-    pub coefficient: &'a [u8],
-    pub letters: &'a [u64],
-}
-
 // The word of these letters.
 fn word(letters: &[u64]) -> Result<Word, Refused> {
     let mut word = Word::empty();
@@ -25,20 +18,11 @@ fn word(letters: &[u64]) -> Result<Word, Refused> {
     Ok(word)
 }
 
-fn push(list: &mut Vec<Term>, term: Term) -> Result<(), AllocError> {
-    list.push(term)?;
-    Ok(())
-}
-
-// The terms that are written.
-pub fn terms<R: Ring>(heap: Global, ring: &R, parts: &[Part]) -> Result<Vec<Term>, Refused> {
-    let mut list = Vec::new(heap);
-    for part in parts {
-        let code = ring.read(part.coefficient)?;
-        let row = word(part.letters)?.row();
-        push(&mut list, Term { row, code })?;
-    }
-    Ok(list)
+// The term with these letters whose coefficient is written so.
+pub fn term<R: Ring>(ring: &R, coefficient: &[u8], letters: &[u64]) -> Result<Term, Refused> {
+    let code = ring.read(coefficient)?;
+    let row = word(letters)?.row();
+    Ok(Term { row, code })
 }
 
 // The letters, each as x and its number.
