@@ -57,15 +57,16 @@ fn show_product<R: Ring + Drop, O: MonomialOrder + Drop>(
     }
 }
 
-// U(sl2), x1, x2 and x3 for e, f and h; the tail of x3 x2 is `last` times x2.
+// U(sl2), x1, x2 and x3 for e, f and h; the tail of x2 x1 is `minus` times x3, that of x3 x2 `last` times x2.
 fn sl2<R: Ring + Drop, O: MonomialOrder + Drop>(
     count: Count,
     ring: R,
     order: O,
+    minus: &[u8],
     last: &[u8],
 ) -> Result<Open<R, O>, Refused> {
     let mut open = Open::new(count, ring, order);
-    declare_tail(&mut open, 2, 1, b"-1", &[3])?;
+    declare_tail(&mut open, 2, 1, minus, &[3])?;
     declare_tail(&mut open, 3, 1, b"2", &[1])?;
     declare_tail(&mut open, 3, 2, last, &[2])?;
     Ok(open)
@@ -75,12 +76,13 @@ fn show_sl2<R: Ring + Drop, O: MonomialOrder + Drop>(
     rt: &LibcRuntime,
     ring: R,
     order: O,
+    minus: &[u8],
     last: &[u8],
 ) -> io::Result<()> {
     let Ok(three) = Count::new(3) else {
         return Ok(());
     };
-    match sl2(three, ring, order, last) {
+    match sl2(three, ring, order, minus, last) {
         Ok(open) => show_product(rt, open, &[2, 2], &[1, 1]),
         Err(e) => show_refusal(rt, &e),
     }
@@ -125,13 +127,13 @@ fn main(rt: LibcRuntime) -> io::Result<()> {
     println!(rt, "quantum plane over q-polynomials")?;
     show_plane(&rt)?;
     println!(rt, "U(sl2) over the integers")?;
-    show_sl2(&rt, Integers, degree, b"-2")?;
+    show_sl2(&rt, Integers, degree, b"-1", b"-2")?;
     if let Ok(ring) = Residues::new(7) {
         println!(rt, "U(sl2) over residues modulo 7")?;
-        show_sl2(&rt, ring, degree, b"5")?;
+        show_sl2(&rt, ring, degree, b"6", b"5")?;
     }
     println!(rt, "U(sl2) with half of a tail")?;
-    show_sl2(&rt, Integers, degree, b"-1")?;
+    show_sl2(&rt, Integers, degree, b"-1", b"-1")?;
     println!(rt, "a tail that does not come before x1 x2")?;
     show_pair(&rt, Integers, degree, &[2, 2, 2])
 }
