@@ -133,7 +133,7 @@ fn before(tail: &[Term], p: usize) -> Option<&Term>
 }
 
 // The checks of each term of a tail of x_j x_i, in their order.
-pub fn check_tail<R: Ring, O: MonomialOrder>(
+pub(crate) fn check_tail<R: Ring, O: MonomialOrder>(
     ring: &R,
     order: &O,
     n: u64,
