@@ -1,4 +1,4 @@
-// The calculator. It declares relations, decides whether they agree, and multiplies; it shows relations that do not agree being refused.
+// The calculator. It declares relations, decides whether they agree, normalises and multiplies; it shows relations that do not agree being refused.
 mod refused;
 mod session;
 mod text;
@@ -22,6 +22,7 @@ use residues::residues::ResiduesRing;
 use session::decided;
 use session::declare_factor;
 use session::declare_tail;
+use session::normal_form_text;
 use session::product_text;
 use std::io;
 
@@ -49,6 +50,24 @@ fn show_product<R: Ring + Drop, O: MonomialOrder + Drop>(
         Ok((algebra, verdict)) => {
             println!(rt, "{verdict}")?;
             match product_text(rt.alloc(), &algebra, first, second) {
+                Ok(line) => println!(rt, "{line}"),
+                Err(e) => show_refusal(rt, &e),
+            }
+        }
+        Err(e) => show_refusal(rt, &e),
+    }
+}
+
+// Decides an algebra and normalises a word in it.
+fn show_normal_form<R: Ring + Drop, O: MonomialOrder + Drop>(
+    rt: &LibcRuntime,
+    open: Open<R, O>,
+    letters: &[u64],
+) -> io::Result<()> {
+    match decided(rt.alloc(), open) {
+        Ok((algebra, verdict)) => {
+            println!(rt, "{verdict}")?;
+            match normal_form_text(rt.alloc(), &algebra, letters) {
                 Ok(line) => println!(rt, "{line}"),
                 Err(e) => show_refusal(rt, &e),
             }
@@ -100,7 +119,7 @@ fn show_pair<R: Ring + Drop, O: MonomialOrder + Drop>(
     };
     let mut open = Open::new(two, ring, order);
     match declare_tail(&mut open, 2, 1, b"1", letters) {
-        Ok(_) => show_product(rt, open, &[2, 2], &[1, 1]),
+        Ok(_) => show_normal_form(rt, open, &[2, 2, 1, 1]),
         Err(e) => show_refusal(rt, &e),
     }
 }

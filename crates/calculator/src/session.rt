@@ -60,6 +60,21 @@ pub fn decided<R: Ring + Drop, O: MonomialOrder + Drop>(
     Ok((closed, text))
 }
 
+// The normal form of a word, and how many steps it took.
+pub fn normal_form_text<R: Ring, O: MonomialOrder>(
+    heap: Global,
+    algebra: &Closed<R, O>,
+    letters: &[u64],
+) -> Result<String, Refused> {
+    let f = [term(algebra.ring(), b"1", letters)?];
+    let mut work = [Term::blank(); PLACES];
+    let mut out = [Term::blank(); PLACES];
+    let (n, steps) = algebra.normalise(&f, &mut work, &mut out)?;
+    let f_text = list_text(heap, algebra.ring(), &f, 1)?;
+    let text = list_text(heap, algebra.ring(), &out, n)?;
+    Ok(format!(heap, "{f_text} = {text} in {steps} steps")?)
+}
+
 // The product of two words, and how many steps it took.
 pub fn product_text<R: Ring, O: MonomialOrder>(
     heap: Global,
