@@ -1,4 +1,6 @@
 // Closed algebras: overlaps, the decision whether the standard words are a basis, and calculations.
+#![tactic(auto)]
+
 pub mod close;
 pub mod closed;
 pub mod fault;

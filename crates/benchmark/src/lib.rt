@@ -1,4 +1,6 @@
 // The run behind C's calling convention, for the benchmark: integers, weighted degree with weights 1.
+#![tactic(auto)]
+
 use integers::integers::Integers;
 use orders::degree::Degree;
 use orders::weight::Weight;

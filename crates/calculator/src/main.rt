@@ -1,4 +1,6 @@
 // The calculator. It declares relations, decides whether they agree, normalises and multiplies; it shows relations that do not agree being refused.
+#![tactic(auto)]
+
 mod refused;
 mod session;
 mod text;

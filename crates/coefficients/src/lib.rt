@@ -1,4 +1,6 @@
 // Coefficient rings by codes: the trait that every ring implements, what an implementation means, and numerals for reading and writing.
+#![tactic(auto)]
+
 pub mod fault;
 pub mod numeral;
 pub mod ring;

@@ -8,8 +8,8 @@ use crate::ring::Ring;
 
 // Reads a text and writes the code that it says: what is written is the text.
 pub fn write_again<R: Ring>(ring: &R, text: &[u8], out: &mut [u8; 80]) -> Result<usize, RingFault>
-    ensures answer { result ≡ written_again (model ring.now) text.now }
-    ensures bytes { out.new ≡ text_after (model ring.now) text.now out.old }
+    ensures answer { result ≡ written_again (R.model ring.now) text.now }
+    ensures bytes { out.new ≡ text_after (R.model ring.now) text.now out.old }
 {
     let a = ring.read(text)?;
     ring.write(a, out)
@@ -17,7 +17,7 @@ pub fn write_again<R: Ring>(ring: &R, text: &[u8], out: &mut [u8; 80]) -> Result
 
 // Writes a code and reads what was written: what is read is the code.
 pub fn read_again<R: Ring>(ring: &R, a: u64) -> Result<u64, RingFault>
-    ensures { result ≡ when_in_use ((model ring.now).used a) (Ok a) }
+    ensures { result ≡ when_in_use ((R.model ring.now).used a) (Ok a) }
 {
     let mut out = [0u8; 80];
     let n = ring.write(a, &mut out)?;

@@ -1,4 +1,6 @@
 // The forms of a script: what a line may hold, how it is written, and its reader.
+#![tactic(auto)]
+
 mod bytes;
 mod expression;
 pub mod fault;

@@ -1,5 +1,7 @@
 // The law of every history of an algebra: what its verdicts and its answers mean, whatever calls are made. Each function here has a theorem
 // for its contract, over every ring and every order that have a model, so that the crate is proved only if the theorem is.
+#![tactic(auto)]
+
 ghost use Rattle.histories.specs.Law.{HistoriesFaithful, RelationsDeclared};
 
 use coefficients::ring::Ring;

@@ -1,6 +1,8 @@
 // What a run computes: the terms of an answered calculation are the normal form of what was loaded, whether or not the relations agree.
 // Each function here has a theorem for its contract, over every ring and every order that have a model, so that the crate is proved only if
 // the theorem is.
+#![tactic(auto)]
+
 ghost use Rattle.normal_forms.specs.Theorems.{InsertionAdds, KeptListsEqual, KeptListEmpty, ValidTailsOver, ValidEnds, StepsKeep, AnsweredRuns};
 ghost use Rattle.normal_forms.specs.Theorems.{AnsweredMemories, AnsweredCalls, TermsTellApart, TermsAreCongruent};
 ghost use Rattle.normal_forms.specs.Examples.{WeylTable};

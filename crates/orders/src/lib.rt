@@ -1,4 +1,6 @@
 // Images of words, and orders on images: lex and weighted degree.
+#![tactic(auto)]
+
 pub mod degree;
 pub mod image;
 pub mod letter;

@@ -1,5 +1,7 @@
 // What every refusal of the calculator says. Each layer has an enum of its own faults, and one definition in its specs/ that gives,
 // case by case, the refusal of a fault.
+#![tactic(auto)]
+
 ghost use Rattle.std.specs.Prelude.{◌≡◌};
 ghost use Rattle.refusals.specs.Refusals.{plain as placeless};
 

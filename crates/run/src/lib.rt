@@ -1,4 +1,6 @@
 // The run: terms are loaded into the kept list, and rewritten at leftmost inversions until only standard words are left.
+#![tactic(auto)]
+
 pub mod calls;
 pub mod engine;
 pub mod entry;

@@ -1,4 +1,6 @@
 // The calculator: reads a script from standard input or a file, and prints the answers.
+#![tactic(auto)]
+
 mod help;
 
 use anyhow::anyhow;

@@ -1,4 +1,6 @@
 // A session: answers a script line by line.
+#![tactic(auto)]
+
 pub mod answer;
 mod calculating;
 mod declaring;

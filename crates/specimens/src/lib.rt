@@ -1,4 +1,6 @@
 // Worked cases of the run and of algebras, as theorems: the definitions compute them.
+#![tactic(auto)]
+
 ghost use Rattle.specimens.specs.Algebras.{WorkedAlgebras};
 ghost use Rattle.specimens.specs.Runs.{WorkedRuns};
 

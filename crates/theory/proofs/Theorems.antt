@@ -1,7 +1,7 @@
 -- The theorems, each from the file that proves it.
 use Rattle.theory.specs.Ring.{CommutativeRing}
 use Rattle.theory.specs.FreeSum.{◌≈◌}
-use Rattle.theory.specs.Theorems.{NormalForms, DiamondLemma, BasisIffResolves, RewritingIsCongruent, NoEndlessRewriting, OperationsRespectCongruence}
+use Rattle.theory.specs.Theorems.{SumsHaveNormalForms, DiamondLemma, BasisIffResolves, RewritingIsCongruent, NoEndlessRewriting, OperationsRespectCongruence}
 use Rattle.theory.proofs.NormalForm.{NF_first, NF_of_standard, NF-standard, NF_≈, NF-append, NF-negate, NF-scale}
 use Rattle.theory.proofs.Diamond.{NF_any}
 use Rattle.theory.proofs.Basis.{NF-over, congruent-NF, NF-congruent, basis_of_resolves, resolves_of_basis}
@@ -11,7 +11,7 @@ use Rattle.theory.proofs.Letters.{append-over, scale-over, negate-over, times-ov
 use Rattle.theory.proofs.Rewriting.{rewriting-congruent}
 use Rattle.theory.proofs.Terminates.{active_ends, no_endless}
 
-pub normal_forms : {R : CommutativeRing} → NormalForms R
+pub normal_forms : {R : CommutativeRing} → SumsHaveNormalForms R
 normal_forms P ends tails = record {
   leftmost = NF_first P ends;
   stay = NF_of_standard P ends;

@@ -31,8 +31,8 @@ pub record NormalForms {R : CommutativeRing} (P : Relations R) (ends : WellFound
   pub over : (f : FreeSum R) → OverSum P.n f → OverSum P.n (NF P ends f)
   pub congruent : (f : FreeSum R) → OverSum P.n f → Congruent P f (NF P ends f)
 
-abbrev pub NormalForms : CommutativeRing → Type 0
-NormalForms R = (P : Relations R) (ends : WellFounded (Below P)) → TailsOver P → NormalForms P ends
+abbrev pub SumsHaveNormalForms : CommutativeRing → Type 0
+SumsHaveNormalForms R = (P : Relations R) (ends : WellFounded (Below P)) → TailsOver P → NormalForms P ends
 
 -- THE DIAMOND LEMMA
 

@@ -1,4 +1,6 @@
 // Words, terms, and how words compare.
+#![tactic(auto)]
+
 pub mod measured;
 pub mod row;
 pub mod term;

@@ -31,7 +31,7 @@ pub loop-c-preserved : goal.loop-c-preserved
 loop-c-preserved c =
     let d = read_digits-more c.args.radix c.loop-c.n c.args.text.now c.loop-c.c-index (omega arith) in
     let shifted = c.in-Some.ensures in
-    let more = c.in-Some-checked-add.ensures in
+    let more = c.in-Some-checked_add.ensures in
     grind (arith, nat_tests)
 
 pub returns : goal.returns

@@ -13,4 +13,4 @@ returns c =
       | else-minus w ↦ simp (w.out-is, w.at-is, w.if-minus.false) digits
     ] in
     let front = to_front c.if-minus.out c.if-minus.at (signed_numeral (radix c.args.base) c.args.minus c.args.n) (omega arith) text in
-    record { bytes = c.rotate-left.ensures.after ∙ front.0; len = front.1 }
+    record { bytes = c.rotate_left.ensures.after ∙ front.0; len = front.1 }
