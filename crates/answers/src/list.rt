@@ -28,7 +28,7 @@ fn push_letters(heap: Global, out: &mut Vec<u8>, row: &Row) -> Result<(), AllocE
 
 // The writing of a code, and nothing where it is not in use.
 fn push_code<R: Ring>(out: &mut Vec<u8>, ring: &R, code: u64) -> Result<(), AllocError>
-    ensures { OnOk result (out.new.items ≡ out.old.items ++ written (model ring.now) code) }
+    ensures { OnOk result (out.new.items ≡ out.old.items ++ written (R.model ring.now) code) }
 {
     let mut writing = [0u8; 80];
     if let Ok(n) = ring.write(code, &mut writing) {
@@ -43,7 +43,7 @@ fn push_term<R: Ring>(
     ring: &R,
     term: &Term,
 ) -> Result<(), AllocError>
-    ensures { OnOk result (out.new.items ≡ out.old.items ++ term_bytes (model ring.now) term.now) }
+    ensures { OnOk result (out.new.items ≡ out.old.items ++ term_bytes (R.model ring.now) term.now) }
 {
     out.extend_from_slice(b"(")?;
     push_code(out, ring, term.code)?;
@@ -59,7 +59,7 @@ fn push_terms<R: Ring>(
     ring: &R,
     terms: &[Term],
 ) -> Result<(), AllocError>
-    ensures { OnOk result (out.new.items ≡ out.old.items ++ terms_bytes (model ring.now) terms.now) }
+    ensures { OnOk result (out.new.items ≡ out.old.items ++ terms_bytes (R.model ring.now) terms.now) }
 {
     for term in terms {
         out.extend_from_slice(b" ")?;
@@ -74,7 +74,7 @@ pub fn push_list<R: Ring>(
     ring: &R,
     terms: &[Term],
 ) -> Result<(), AllocError>
-    ensures { OnOk result (out.new.items ≡ out.old.items ++ list_bytes (model ring.now) terms.now) }
+    ensures { OnOk result (out.new.items ≡ out.old.items ++ list_bytes (R.model ring.now) terms.now) }
 {
     out.extend_from_slice(b"(list")?;
     push_terms(heap, out, ring, terms)?;

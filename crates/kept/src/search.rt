@@ -20,7 +20,7 @@ pub enum Near {
 // From the front, in doubling strides.
 fn stride<O: MonomialOrder>(order: &O, work: &[Term], start: usize, t: &Measured) -> Near
     requires { start ≤ length work.now }
-    ensures { Bounds (model order.now) work.now start (measured_term t.now) result }
+    ensures { Bounds (O.model order.now) work.now start (measured_term t.now) result }
 {
     let mut low = start;
     let mut high = start;
@@ -49,8 +49,8 @@ fn halve<O: MonomialOrder>(
     high: usize,
     t: &Measured,
 ) -> Near
-    requires { Bounds (model order.now) work.now start (measured_term t.now) (Between low high) }
-    ensures bounds { Bounds (model order.now) work.now start (measured_term t.now) result }
+    requires { Bounds (O.model order.now) work.now start (measured_term t.now) (Between low high) }
+    ensures bounds { Bounds (O.model order.now) work.now start (measured_term t.now) result }
     ensures narrow { Narrow result }
 {
     let mut low = low;
@@ -73,9 +73,9 @@ pub fn find_place<O: MonomialOrder>(
     start: usize,
     t: &Measured,
 ) -> (usize, bool)
-    requires { (start ≤ length work.now) × (Falls (model order.now) (drop start work.now)) }
-    ensures at { result.0 ≡ start + place (model order.now) (measured_term t.now) (drop start work.now) }
-    ensures here { result.1 ≡ present (model order.now) (measured_term t.now) (drop start work.now) }
+    requires { (start ≤ length work.now) × (Falls (O.model order.now) (drop start work.now)) }
+    ensures at { result.0 ≡ start + place (O.model order.now) (measured_term t.now) (drop start work.now) }
+    ensures here { result.1 ≡ present (O.model order.now) (measured_term t.now) (drop start work.now) }
     ensures within { (start ≤ result.0) × ((result.0 ≤ length work.now) × ((result.1 ≡ true → result.0 < length work.now))) }
 {
     let near = match stride(order, work, start, t) {

@@ -1,6 +1,6 @@
 // The order by weighted degree.
 ghost use Rattle.std.specs.Prelude.{◌≡◌};
-ghost use Rattle.orders.specs.Images.{counts as Counts-of};
+ghost use Rattle.orders.specs.Images.{counts as counts_of};
 ghost use Rattle.orders.specs.Models.{degree_model};
 ghost use Rattle.orders.specs.Orders.{dot};
 ghost use Rattle.orders.specs.Weights.{weight_values};
@@ -26,7 +26,7 @@ impl Degree {
 
     // Each count times its weight, added up.
     pub fn weighted(&self, image: &Image) -> u32
-        ensures { result ≡ dot (weight_values self.now.weights) (Counts-of image.now) }
+        ensures { result ≡ dot (weight_values self.now.weights) (counts_of image.now) }
     {
         let counts = image.counts();
         let mut sum = 0u32;

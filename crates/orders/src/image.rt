@@ -2,7 +2,7 @@
 ghost use Rattle.std.specs.Prelude.{◌≡◌};
 ghost use Rattle.orders.specs.Letters.{letters, image};
 ghost use Rattle.orders.specs.Orders.{first_difference};
-ghost use Rattle.orders.specs.Images.{counts as Counts-of};
+ghost use Rattle.orders.specs.Images.{counts as counts_of};
 
 use crate::letter::{LETTERS, Row, is_letter};
 use std::cmp::Ordering;
@@ -16,7 +16,7 @@ pub struct Image {
 impl Image {
     // The image of the word that a row holds.
     pub fn of_row(row: &Row) -> Image
-        ensures { Counts-of result ≡ image (letters row.now) }
+        ensures { counts_of result ≡ image (letters row.now) }
     {
         let mut packed = 0u64;
         for x in row {
@@ -30,14 +30,14 @@ impl Image {
 
     // The counts of x1, x2 and so on.
     pub fn counts(&self) -> [u8; LETTERS]
-        ensures { result ≡ Counts-of self.now }
+        ensures { result ≡ counts_of self.now }
     {
         self.packed.to_be_bytes()
     }
 
     // By the count of x1, then by that of x2, and so on.
     pub fn first_difference(&self, other: &Image) -> Ordering
-        ensures { result ≡ first_difference (Counts-of self.now) (Counts-of other.now) }
+        ensures { result ≡ first_difference (counts_of self.now) (counts_of other.now) }
     {
         if self.packed < other.packed {
             return Ordering::Less;

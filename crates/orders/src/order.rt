@@ -1,6 +1,6 @@
 // Orders on images, and the order lex.
 ghost use Rattle.std.specs.Prelude.{◌≡◌};
-ghost use Rattle.orders.specs.Images.{counts as Counts-of};
+ghost use Rattle.orders.specs.Images.{counts as counts_of};
 ghost use Rattle.orders.specs.Models.{OrderModel, lex_model, compare_images};
 ghost use Rattle.orders.specs.Laws.{ImagesOrdered};
 
@@ -12,7 +12,7 @@ pub trait MonomialOrder {
     ghost model: { Self → OrderModel };
 
     fn compare(&self, a: &Image, b: &Image) -> Ordering
-        ensures { result ≡ compare_images (model self.now) (Counts-of a.now) (Counts-of b.now) };
+        ensures { result ≡ compare_images (model self.now) (counts_of a.now) (counts_of b.now) };
 }
 
 // By the count of x1, then by that of x2, and so on.
@@ -29,5 +29,5 @@ impl MonomialOrder for Lex {
 
 // Under every order, comparing images is a strict total order, compatible with sums, and there is no infinite descent.
 pub fn images_are_ordered<O: MonomialOrder>(order: &O)
-    ensures { ImagesOrdered (model order.now) }
+    ensures { ImagesOrdered (O.model order.now) }
 {}

@@ -1,5 +1,5 @@
 -- The ring of polynomials in q over the field of two elements.
-use Rattle.std.specs.Prelude.{◌≡◌, ℕ, bit-xor}
+use Rattle.std.specs.Prelude.{◌≡◌, ℕ, bit_xor}
 use mathlib.Core.HLevel.{hedberg}
 use Rattle.std.proofs.Math.Decide.{ℕ_discrete}
 use Rattle.std.proofs.Common.{arith}
@@ -19,11 +19,11 @@ one_not_zero e = omega arith
 abbrev pub qpolynomial_ring : CommutativeRing
 qpolynomial_ring = record {
   carrier = ℕ;
-  add = bitXor;
+  add = bit_xor;
   mul = times;
   zero = 0;
   neg = same;
   one = 1;
-  laws = laws_of bit-xor times 0 same 1 (hedberg ℕ_discrete) xor_assoc xor_comm xor_zero_r xor_self times_assoc times_comm times-one times-xor;
+  laws = laws_of bit_xor times 0 same 1 (hedberg ℕ_discrete) xor_assoc xor_comm xor_zero_r xor_self times_assoc times_comm times-one times-xor;
   one≢zero = one_not_zero;
 }

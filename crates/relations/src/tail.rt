@@ -42,7 +42,7 @@ pub fn is_word_over(n: u64, row: &Row) -> bool
 
 // Whether a term's word is below that of the term before, if there is one.
 fn is_below<O: MonomialOrder>(order: &O, last: Option<&Term>, t: &Term) -> bool
-    ensures { result ≡ below_last (model order.now) (option_map (λ x. x.now) last.entry) t.now }
+    ensures { result ≡ below_last (O.model order.now) (option_map (λ x. x.now) last.entry) t.now }
 {
     match last {
         None => true,
@@ -67,7 +67,7 @@ fn pair_row(j: u8, i: u8) -> Row
 // Whether the image of a row's word is before that of x_i x_j.
 fn is_before<O: MonomialOrder>(order: &O, row: &Row, j: u8, i: u8) -> bool
     requires { (1 ≤ j) × ((j ≤ 8) × ((1 ≤ i) × (i ≤ 8))) }
-    ensures { result ≡ image_before (model order.now) (letters row.now) (i ∷ j ∷ []) }
+    ensures { result ≡ image_before (O.model order.now) (letters row.now) (i ∷ j ∷ []) }
 {
     match order.compare(&Image::of_row(row), &Image::of_row(&pair_row(j, i))) {
         Ordering::Less => true,

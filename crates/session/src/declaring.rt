@@ -25,8 +25,8 @@ fn read_factor<'a, R: Ring>(
     factor: &[u8],
     pieces: &[Piece<'a>],
 ) -> Result<u64, ScriptFault>
-    ensures answer { result ≡ first_read (model ring.now) factor.now (coefficients_of (map shown pieces.now)) }
-    ensures terms { (ts : List TermForm) → map shown pieces.now ≡ term_pieces ts → result ≡ first_read (model ring.now) factor.now (map (λ (t : TermForm). t.coefficient) ts) }
+    ensures answer { result ≡ first_read (R.model ring.now) factor.now (coefficients_of (map shown pieces.now)) }
+    ensures terms { (ts : List TermForm) → map shown pieces.now ≡ term_pieces ts → result ≡ first_read (R.model ring.now) factor.now (map (λ (t : TermForm). t.coefficient) ts) }
 {
     let code = ring.read(factor)?;
     check_coefficients(ring, pieces)?;

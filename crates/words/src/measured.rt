@@ -2,7 +2,7 @@
 // which is rare.
 ghost use Rattle.std.specs.Prelude.{◌≡◌};
 ghost use Rattle.orders.specs.Images.{counts};
-ghost use Rattle.orders.specs.Letters.{letters, image as image-of};
+ghost use Rattle.orders.specs.Letters.{letters, image as image_of};
 ghost use Rattle.words.specs.Compare.{compare_words};
 
 use crate::row::{by_numbers, first_letter_difference, row_inversions};
@@ -15,7 +15,7 @@ use std::cmp::Ordering;
 pub struct Measured {
     row: Row,
     image: Image,
-    ghost counted: { counts image ≡ image-of (letters row) },
+    ghost counted: { counts image ≡ image_of (letters row) },
 }
 
 impl Measured {
@@ -28,7 +28,7 @@ impl Measured {
 
     // As compare_rows compares its row with the other.
     pub fn compare_with<O: MonomialOrder>(&self, order: &O, other: &Row) -> Ordering
-        ensures { result ≡ compare_words (model order.now) (letters self.now.row) (letters other.now) }
+        ensures { result ≡ compare_words (O.model order.now) (letters self.now.row) (letters other.now) }
     {
         let by_image = order.compare(&self.image, &Image::of_row(other));
         match by_image {

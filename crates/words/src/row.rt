@@ -3,7 +3,7 @@ ghost use Rattle.std.specs.Prelude.{◌≡◌, ◌≤◌, length, if◌then◌el
 ghost use Rattle.orders.specs.Letters.{letters, is_letter, row_length};
 ghost use Rattle.orders.specs.Orders.{first_difference, numbers};
 ghost use Rattle.words.specs.Compare.{compare_words};
-ghost use Rattle.words.specs.Inversions.{inversions as inversions-of, standard, leftmost_inversion};
+ghost use Rattle.words.specs.Inversions.{inversions as inversions_of, standard, leftmost_inversion};
 ghost use Rattle.words.specs.Laws.{StandardWords};
 
 use orders::image::Image;
@@ -34,7 +34,7 @@ const REDUCE_AT: usize = 23;
 // sum of its bytes as long as that is less than 255, so two remainders do for a whole row. There are two loops because an optimizer
 // may take the remainder at every letter where one loop tests the place.
 pub fn row_inversions(row: &Row) -> usize
-    ensures { result ≡ inversions-of (letters row.now) }
+    ensures { result ≡ inversions_of (letters row.now) }
 {
     let mut seen = 0u64;
     let mut sum = 0u64;
@@ -92,7 +92,7 @@ pub fn row_is_standard(row: &Row) -> bool
 // Later image, then more inversions, then the larger letter at the first difference. Inversions are counted only for different words of
 // one image.
 pub fn compare_rows<O: MonomialOrder>(order: &O, a: &Row, b: &Row) -> Ordering
-    ensures { result ≡ compare_words (model order.now) (letters a.now) (letters b.now) }
+    ensures { result ≡ compare_words (O.model order.now) (letters a.now) (letters b.now) }
 {
     let by_image = order.compare(&Image::of_row(a), &Image::of_row(b));
     match by_image {

@@ -1,6 +1,6 @@
 // Terms: a word in a row, and the code of its coefficient.
 ghost use Rattle.std.specs.Prelude.{◌≡◌};
-ghost use Rattle.words.specs.Terms.{blank as blank-term};
+ghost use Rattle.words.specs.Terms.{blank as blank_term};
 
 use orders::letter::{ROW_LENGTH, Row};
 
@@ -13,7 +13,7 @@ pub struct Term {
 impl Term {
     // The empty word with code 0.
     pub fn blank() -> Term
-        ensures { result ≡ blank-term }
+        ensures { result ≡ blank_term }
     {
         let row = [0; ROW_LENGTH];
         Term { row, code: 0 }

@@ -1,7 +1,7 @@
 // Calculations in a closed algebra. Both memories may hold anything and have any size. After an answer the result memory holds the terms and
 // then blanks, after a refusal blanks; work memory is blank after both.
 ghost use Rattle.std.specs.Prelude.{◌≡◌, ◌++◌, length, Ok, Err};
-ghost use Rattle.algebra.specs.Calls.{Answered, when_sound, scan_first, scan_second, normalise as normal_form, sum as sum-form, difference as difference-form, product as product-form};
+ghost use Rattle.algebra.specs.Calls.{Answered, when_sound, scan_first, scan_second, normalise as normal_form, sum as sum_form, difference as difference_form, product as product_form};
 ghost use Rattle.algebra.specs.Meaning.{Formed};
 ghost use Rattle.normal_forms.specs.Terms.{sum_of};
 ghost use Rattle.normal_forms.specs.Relations.{Valid};
@@ -93,7 +93,7 @@ impl<R: Ring, O: MonomialOrder> Closed<R, O> {
         work: &mut [Term],
         out: &mut [Term],
     ) -> Result<(usize, u64), AlgebraFault>
-        ensures* answer { λ r. ⌜ Answered (sum-form (R.Ring.model self.now.ring) (O.MonomialOrder.model self.now.order) (record { work = length work.entry.now; result = length out.old }) self.now.count.n self.now.table self.now.verdict first.now second.now) work.exit.now out.new r ⌝ }
+        ensures* answer { λ r. ⌜ Answered (sum_form (R.Ring.model self.now.ring) (O.MonomialOrder.model self.now.order) (record { work = length work.entry.now; result = length out.old }) self.now.count.n self.now.table self.now.verdict first.now second.now) work.exit.now out.new r ⌝ }
         ensures meaning { Valid (R.Ring.model self.now.ring) (O.MonomialOrder.model self.now.order) self.now.count.n self.now.table → Formed (R.Ring.model self.now.ring) self.now.count.n self.now.table (sum_of (R.Ring.model self.now.ring) first.now ++ sum_of (R.Ring.model self.now.ring) second.now) out.new result }
     {
         match self.check_two(first, second) {
@@ -121,7 +121,7 @@ impl<R: Ring, O: MonomialOrder> Closed<R, O> {
         work: &mut [Term],
         out: &mut [Term],
     ) -> Result<(usize, u64), AlgebraFault>
-        ensures* answer { λ r. ⌜ Answered (difference-form (R.Ring.model self.now.ring) (O.MonomialOrder.model self.now.order) (record { work = length work.entry.now; result = length out.old }) self.now.count.n self.now.table self.now.verdict first.now second.now) work.exit.now out.new r ⌝ }
+        ensures* answer { λ r. ⌜ Answered (difference_form (R.Ring.model self.now.ring) (O.MonomialOrder.model self.now.order) (record { work = length work.entry.now; result = length out.old }) self.now.count.n self.now.table self.now.verdict first.now second.now) work.exit.now out.new r ⌝ }
         ensures meaning { Valid (R.Ring.model self.now.ring) (O.MonomialOrder.model self.now.order) self.now.count.n self.now.table → Formed (R.Ring.model self.now.ring) self.now.count.n self.now.table (sum_of (R.Ring.model self.now.ring) first.now ++ negate (sum_of (R.Ring.model self.now.ring) second.now)) out.new result }
     {
         match self.check_two(first, second) {
@@ -149,7 +149,7 @@ impl<R: Ring, O: MonomialOrder> Closed<R, O> {
         work: &mut [Term],
         out: &mut [Term],
     ) -> Result<(usize, u64), AlgebraFault>
-        ensures* answer { λ r. ⌜ Answered (product-form (R.Ring.model self.now.ring) (O.MonomialOrder.model self.now.order) (record { work = length work.entry.now; result = length out.old }) self.now.count.n self.now.table self.now.verdict first.now second.now) work.exit.now out.new r ⌝ }
+        ensures* answer { λ r. ⌜ Answered (product_form (R.Ring.model self.now.ring) (O.MonomialOrder.model self.now.order) (record { work = length work.entry.now; result = length out.old }) self.now.count.n self.now.table self.now.verdict first.now second.now) work.exit.now out.new r ⌝ }
         ensures meaning { Valid (R.Ring.model self.now.ring) (O.MonomialOrder.model self.now.order) self.now.count.n self.now.table → Formed (R.Ring.model self.now.ring) self.now.count.n self.now.table (times (sum_of (R.Ring.model self.now.ring) first.now) (sum_of (R.Ring.model self.now.ring) second.now)) out.new result }
     {
         match self.check_two(first, second) {

@@ -1,12 +1,12 @@
 // The number that a numeral writes.
 ghost use Rattle.std.specs.Prelude.{◌≡◌, ◌≤◌};
-ghost use Rattle.coefficients.specs.Numerals.{radix as radix-of, read_digits, read_numeral};
+ghost use Rattle.coefficients.specs.Numerals.{radix as radix_of, read_digits, read_numeral};
 
 use crate::numeral::Base;
 
 impl Base {
     pub fn radix(self) -> u64
-        ensures value { result ≡ radix-of self }
+        ensures value { result ≡ radix_of self }
         ensures bound { (2 ≤ result) × (result ≤ 10) }
     {
         match self {
@@ -42,7 +42,7 @@ fn digits_value(radix: u64, text: &[u8]) -> Option<u64>
 
 // The number of 64 bits whose numeral `text` is.
 pub fn read_numeral(base: Base, text: &[u8]) -> Option<u64>
-    ensures { result ≡ read_numeral (radix-of base) text.now }
+    ensures { result ≡ read_numeral (radix_of base) text.now }
 {
     if text.is_empty() {
         return None;

@@ -1,7 +1,7 @@
 // Numerals in 80 bytes.
 ghost use Rattle.std.specs.Prelude.{◌≡◌, ◌+◌, ◌≤◌, ◌++◌, length, replicate};
 ghost use Rattle.coefficients.specs.Coding.{filled};
-ghost use Rattle.coefficients.specs.Numerals.{radix as radix-of, numeral, signed_numeral};
+ghost use Rattle.coefficients.specs.Numerals.{radix as radix_of, numeral, signed_numeral};
 
 use crate::numeral::Base;
 
@@ -32,8 +32,8 @@ fn spell(radix: u64, n: u64, out: &mut [u8; 80]) -> usize
 
 // Fills `out` with the numeral of n, behind a minus sign where it is asked for, then zeros, and answers how long the text is.
 pub fn write_numeral(base: Base, minus: bool, n: u64, out: &mut [u8; 80]) -> usize
-    ensures bytes { out.new ≡ filled (signed_numeral (radix-of base) minus n) }
-    ensures len { result ≡ length (signed_numeral (radix-of base) minus n) }
+    ensures bytes { out.new ≡ filled (signed_numeral (radix_of base) minus n) }
+    ensures len { result ≡ length (signed_numeral (radix_of base) minus n) }
 {
     clear(out);
     let mut at = spell(base.radix(), n, out);

@@ -81,7 +81,7 @@ impl Presentation {
 
 // The checks of a factor.
 fn check_factor<R: Ring>(ring: &R, factor: u64) -> Result<(), DeclareFault>
-    ensures { result ≡ check_factor (model ring.now) factor passed }
+    ensures { result ≡ check_factor (R.model ring.now) factor passed }
 {
     if !ring.in_use(factor) {
         return refuse(DeclareCause::Coefficient(RingFault::NotInUse));

@@ -1,11 +1,11 @@
 // The turn of a form in a session.
 ghost use Rattle.std.specs.Prelude.{◌≡◌, ◌<◌, List, map};
 ghost use Rattle.grammar.specs.Expressions.{Expr};
-ghost use Rattle.grammar.specs.Forms.{TermForm, Form, algebra as algebra-form, rel as rel-form, decide as decide-form, calc as calc-form, order_choice, term_pieces, Holds};
+ghost use Rattle.grammar.specs.Forms.{TermForm, Form, algebra as algebra_form, rel as rel_form, decide as decide_form, calc as calc_form, order_choice, term_pieces, Holds};
 ghost use Rattle.grammar.specs.Pieces.{shown, postfix};
 ghost use Rattle.grammar.specs.Grammar.{depth, nesting};
 ghost use Rattle.session.specs.State.{start, state_of, closed_state};
-ghost use Rattle.session.specs.Turns.{turn as the-turn};
+ghost use Rattle.session.specs.Turns.{turn as the_turn};
 ghost use Rattle.session.specs.Results.{Turned};
 ghost use Rattle.session.specs.declared.state.Tag.TheVariants.{Start, Declaring, Calculating};
 
@@ -39,7 +39,7 @@ impl Session {
 
     fn open(&mut self, n: u64, ring: RingForm, order: OrderForm) -> Result<Answer, Failure>
         requires { self.old.tag ≡ Start }
-        ensures { Turned (the-turn (state_of self.old.stage) (algebra-form n ring (order_choice order))) (state_of self.new.stage) result }
+        ensures { Turned (the_turn (state_of self.old.stage) (algebra_form n ring (order_choice order))) (state_of self.new.stage) result }
     {
         let algebra = open_algebra(n, ring, order)?;
         self.stage = Stage::Open(algebra);
@@ -56,7 +56,7 @@ impl Session {
         pieces: &[Piece<'a>],
     ) -> Result<Answer, Failure>
         requires { self.old.tag ≡ Declaring }
-        ensures { (ts : List TermForm) → map shown pieces.now ≡ term_pieces ts → Turned (the-turn (state_of self.old.stage) (rel-form j i factor.now ts)) (state_of self.new.stage) result }
+        ensures { (ts : List TermForm) → map shown pieces.now ≡ term_pieces ts → Turned (the_turn (state_of self.old.stage) (rel_form j i factor.now ts)) (state_of self.new.stage) result }
     {
         let Stage::Open(mut algebra) = mem::replace(&mut self.stage, Stage::Empty) else {
             return Err(OUT_OF_TURN);
@@ -80,7 +80,7 @@ impl Session {
 
     fn decide(&mut self, memory: &mut Memory) -> Result<Answer, Failure>
         requires { self.old.tag ≡ Calculating }
-        ensures { Turned (the-turn (state_of self.old.stage) decide-form) (state_of self.new.stage) result }
+        ensures { Turned (the_turn (state_of self.old.stage) decide_form) (state_of self.new.stage) result }
     {
         let Stage::Closed(mut algebra) = mem::replace(&mut self.stage, Stage::Empty) else {
             return Err(OUT_OF_TURN);
@@ -93,7 +93,7 @@ impl Session {
 
     fn work_out<'a>(&self, pieces: &[Piece<'a>], memory: &mut Memory) -> Result<Answer, Failure>
         requires { self.now.tag ≡ Calculating }
-        ensures { (e : Expr) → map shown pieces.now ≡ postfix e → depth e < 16 → Turned (the-turn (state_of self.now.stage) (calc-form e)) (state_of self.now.stage) result }
+        ensures { (e : Expr) → map shown pieces.now ≡ postfix e → depth e < 16 → Turned (the_turn (state_of self.now.stage) (calc_form e)) (state_of self.now.stage) result }
     {
         let Stage::Closed(algebra) = &self.stage else {
             return Err(OUT_OF_TURN);
@@ -111,7 +111,7 @@ impl Session {
         memory: &mut Memory,
     ) -> Result<Answer, Failure>
         requires { (f : Form) × Holds line pieces.now f }
-        ensures { (f : Form) → Holds line.entry pieces.now f → nesting f < 16 → Turned (the-turn (state_of self.old.stage) f) (state_of self.new.stage) result }
+        ensures { (f : Form) → Holds line.entry pieces.now f → nesting f < 16 → Turned (the_turn (state_of self.old.stage) f) (state_of self.new.stage) result }
     {
         match (self.tag, line) {
             (Tag::Start, Line::Algebra(n, ring, order)) => self.open(n, ring, order),

@@ -1,11 +1,11 @@
 // How words are made and grow, and what is asked of them.
 ghost use Rattle.std.specs.Prelude.{◌≡◌, ◌≤◌, true, false, [], length, MatchResult};
-ghost use Rattle.orders.specs.Letters.{image as image-of, row_length};
+ghost use Rattle.orders.specs.Letters.{image as image_of, row_length};
 ghost use Rattle.orders.specs.Images.{counts};
 ghost use Rattle.words.specs.Compare.{compare_words};
 ghost use Rattle.words.specs.Faults.{refusal_of};
 ghost use Rattle.words.specs.Growth.{grown, answer, value_or};
-ghost use Rattle.words.specs.Inversions.{inversions as inversions-of, standard, leftmost_inversion};
+ghost use Rattle.words.specs.Inversions.{inversions as inversions_of, standard, leftmost_inversion};
 ghost use Rattle.words.specs.Laws.{WordsOrdered};
 ghost use Rattle.words.specs.Rows.{is_row, row_of};
 ghost use Rattle.words.specs.Spelled.{spelled};
@@ -100,13 +100,13 @@ impl Word {
 
     // How often each letter comes in the word.
     pub fn image(&self) -> Image
-        ensures { counts result ≡ image-of (spelled self.now) }
+        ensures { counts result ≡ image_of (spelled self.now) }
     {
         Image::of_row(&self.row)
     }
 
     pub fn inversions(&self) -> usize
-        ensures { result ≡ inversions-of (spelled self.now) }
+        ensures { result ≡ inversions_of (spelled self.now) }
     {
         row_inversions(&self.row)
     }
@@ -126,8 +126,8 @@ impl Word {
 
     // Later image, then more inversions, then the larger letter at the first difference: a strict total order under every order on images.
     pub fn compare<O: MonomialOrder>(&self, order: &O, other: &Word) -> Ordering
-        ensures value { result ≡ compare_words (model order.now) (spelled self.now) (spelled other.now) }
-        ensures ordered { WordsOrdered (model order.now) }
+        ensures value { result ≡ compare_words (O.model order.now) (spelled self.now) (spelled other.now) }
+        ensures ordered { WordsOrdered (O.model order.now) }
     {
         compare_rows(order, &self.row, &other.row)
     }

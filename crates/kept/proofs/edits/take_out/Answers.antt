@@ -9,7 +9,7 @@ returns c =
     let p = c.args.p in
     let b = c.blank.result in
     record {
-      list = out_list xs c.rotate-right.new.self s p (p + 1 - s) b (omega arith) (omega arith) (omega arith) c.rotate-right.ensures.after;
-      rest = out_rest xs c.rotate-right.new.self s p (p + 1 - s) b (omega arith) (omega arith) (omega arith) c.rotate-right.ensures.len
+      list = out_list xs c.rotate_right.new.self s p (p + 1 - s) b (omega arith) (omega arith) (omega arith) c.rotate_right.ensures.after;
+      rest = out_rest xs c.rotate_right.new.self s p (p + 1 - s) b (omega arith) (omega arith) (omega arith) c.rotate_right.ensures.len
           ∙ ap (λ x. take s xs ++ x ∷ []) c.blank.ensures;
     }

@@ -19,47 +19,47 @@ same_here o u t xs s b e h = h ∙ (same_place o u t (drop s xs) e).1
 abbrev null : Term
 null = record { row = []; code = 0 }
 
-pub returns-in-err-c : goal.returns-in-err-c
-returns-in-err-c g c =
-    let p = err_from_is_err_and c.from-residual.result c.from-residual.ensures.1 in
-    let w = insert_here (g.R.Ring.model c.args.ring.now) (g.O.MonomialOrder.model c.args.order.now) c.args.t c.args.work.now c.args.start c.find-place-p.result.0 c.if-t-eq0.false (same_at (g.O.MonomialOrder.model c.args.order.now) (measured_term c.new.result) c.args.t c.args.work.now c.args.start _ c.new.ensures c.find-place-p.ensures.at) null _ (sym c.if-here.true ∙ same_here (g.O.MonomialOrder.model c.args.order.now) (measured_term c.new.result) c.args.t c.args.work.now c.args.start _ c.new.ensures c.find-place-p.ensures.here) c.in-err-c.ensures in
+pub returns-in_err-c : goal.returns-in_err-c
+returns-in_err-c g c =
+    let p = err_from_is_err_and c.from_residual.result c.from_residual.ensures.1 in
+    let w = insert_here (g.R.Ring.model c.args.ring.now) (g.O.MonomialOrder.model c.args.order.now) c.args.t c.args.work.now c.args.start c.find_place-p.result.0 c.if-t-eq0.false (same_at (g.O.MonomialOrder.model c.args.order.now) (measured_term c.new.result) c.args.t c.args.work.now c.args.start _ c.new.ensures c.find_place-p.ensures.at) null _ (sym c.if-here.true ∙ same_here (g.O.MonomialOrder.model c.args.order.now) (measured_term c.new.result) c.args.t c.args.work.now c.args.start _ c.new.ensures c.find_place-p.ensures.here) c.in_err-c.ensures in
     rw (p.1, p.2) (refl, w)
 
 pub returns-then-c-eq0 : goal.returns-then-c-eq0
 returns-then-c-eq0 g c =
     let xs = c.args.work.now in
     let s = c.args.start in
-    let p = c.find-place-p.result.0 in
-    let w = insert_here (g.R.Ring.model c.args.ring.now) (g.O.MonomialOrder.model c.args.order.now) c.args.t xs s p c.if-t-eq0.false (same_at (g.O.MonomialOrder.model c.args.order.now) (measured_term c.new.result) c.args.t c.args.work.now c.args.start _ c.new.ensures c.find-place-p.ensures.at) null (Ok c.in-ok-c.c) (sym c.if-here.true ∙ same_here (g.O.MonomialOrder.model c.args.order.now) (measured_term c.new.result) c.args.t c.args.work.now c.args.start _ c.new.ensures c.find-place-p.ensures.here) c.in-ok-c.ensures in (
+    let p = c.find_place-p.result.0 in
+    let w = insert_here (g.R.Ring.model c.args.ring.now) (g.O.MonomialOrder.model c.args.order.now) c.args.t xs s p c.if-t-eq0.false (same_at (g.O.MonomialOrder.model c.args.order.now) (measured_term c.new.result) c.args.t c.args.work.now c.args.start _ c.new.ensures c.find_place-p.ensures.at) null (Ok c.in_ok-c.c) (sym c.if-here.true ∙ same_here (g.O.MonomialOrder.model c.args.order.now) (measured_term c.new.result) c.args.t c.args.work.now c.args.start _ c.new.ensures c.find_place-p.ensures.here) c.in_ok-c.ensures in (
       omega arith,
-      ap Ok c.take-out.ensures.list ∙ sym (w ∙ summed-zero (drop s xs) (p - s) null c.in-ok-c.c c.if-c-eq0.true),
-      blanks-more xs c.take-out.new.work s c.take-out.ensures.rest,
+      ap Ok c.take_out.ensures.list ∙ sym (w ∙ summed-zero (drop s xs) (p - s) null c.in_ok-c.c c.if-c-eq0.true),
+      blanks-more xs c.take_out.new.work s c.take_out.ensures.rest,
     )
 
 pub returns-then-here : goal.returns-then-here
 returns-then-here g c =
     let xs = c.args.work.now in
     let s = c.args.start in
-    let p = c.find-place-p.result.0 in
+    let p = c.find_place-p.result.0 in
     let m = g.R.Ring.model c.args.ring.now in
     let o = g.O.MonomialOrder.model c.args.order.now in
-    let w = insert_here m o c.args.t xs s p c.if-t-eq0.false (same_at (g.O.MonomialOrder.model c.args.order.now) (measured_term c.new.result) c.args.t c.args.work.now c.args.start _ c.new.ensures c.find-place-p.ensures.at) null (Ok c.in-ok-c.c) (sym c.if-here.true ∙ same_here (g.O.MonomialOrder.model c.args.order.now) (measured_term c.new.result) c.args.t c.args.work.now c.args.start _ c.new.ensures c.find-place-p.ensures.here) c.in-ok-c.ensures in (
+    let w = insert_here m o c.args.t xs s p c.if-t-eq0.false (same_at (g.O.MonomialOrder.model c.args.order.now) (measured_term c.new.result) c.args.t c.args.work.now c.args.start _ c.new.ensures c.find_place-p.ensures.at) null (Ok c.in_ok-c.c) (sym c.if-here.true ∙ same_here (g.O.MonomialOrder.model c.args.order.now) (measured_term c.new.result) c.args.t c.args.work.now c.args.start _ c.new.ensures c.find_place-p.ensures.here) c.in_ok-c.ensures in (
       simp length-set (omega arith),
-      ap Ok (code-set m o c.args.t xs s p c.if-t-eq0.false (same_at (g.O.MonomialOrder.model c.args.order.now) (measured_term c.new.result) c.args.t c.args.work.now c.args.start _ c.new.ensures c.find-place-p.ensures.at) null c.in-ok-c.c) ∙ sym (w ∙ summed-more (drop s xs) (p - s) null c.in-ok-c.c c.if-c-eq0.false),
+      ap Ok (code-set m o c.args.t xs s p c.if-t-eq0.false (same_at (g.O.MonomialOrder.model c.args.order.now) (measured_term c.new.result) c.args.t c.args.work.now c.args.start _ c.new.ensures c.find_place-p.ensures.at) null c.in_ok-c.c) ∙ sym (w ∙ summed-more (drop s xs) (p - s) null c.in_ok-c.c c.if-c-eq0.false),
       λ h. take-set-le s xs p _ (omega arith) ∙ h,
     )
 
 pub returns-then-start-eq0 : goal.returns-then-start-eq0
 returns-then-start-eq0 g c =
-    let w = insert-new (g.R.Ring.model c.args.ring.now) (g.O.MonomialOrder.model c.args.order.now) c.args.t c.args.work.now c.args.start c.find-place-p.result.0 c.if-t-eq0.false (same_at (g.O.MonomialOrder.model c.args.order.now) (measured_term c.new.result) c.args.t c.args.work.now c.args.start _ c.new.ensures c.find-place-p.ensures.at) (sym c.if-here.false ∙ same_here (g.O.MonomialOrder.model c.args.order.now) (measured_term c.new.result) c.args.t c.args.work.now c.args.start _ c.new.ensures c.find-place-p.ensures.here) in
+    let w = insert-new (g.R.Ring.model c.args.ring.now) (g.O.MonomialOrder.model c.args.order.now) c.args.t c.args.work.now c.args.start c.find_place-p.result.0 c.if-t-eq0.false (same_at (g.O.MonomialOrder.model c.args.order.now) (measured_term c.new.result) c.args.t c.args.work.now c.args.start _ c.new.ensures c.find_place-p.ensures.at) (sym c.if-here.false ∙ same_here (g.O.MonomialOrder.model c.args.order.now) (measured_term c.new.result) c.args.t c.args.work.now c.args.start _ c.new.ensures c.find_place-p.ensures.here) in
     (refl, w ∙ simp c.if-start-eq0.true)
 
 pub returns : goal.returns
 returns g c =
     let xs = c.args.work.now in
     let s = c.args.start in
-    let w = insert-new (g.R.Ring.model c.args.ring.now) (g.O.MonomialOrder.model c.args.order.now) c.args.t xs s c.find-place-p.result.0 c.if-t-eq0.false (same_at (g.O.MonomialOrder.model c.args.order.now) (measured_term c.new.result) c.args.t c.args.work.now c.args.start _ c.new.ensures c.find-place-p.ensures.at) (sym c.if-here.false ∙ same_here (g.O.MonomialOrder.model c.args.order.now) (measured_term c.new.result) c.args.t c.args.work.now c.args.start _ c.new.ensures c.find-place-p.ensures.here) in (
+    let w = insert-new (g.R.Ring.model c.args.ring.now) (g.O.MonomialOrder.model c.args.order.now) c.args.t xs s c.find_place-p.result.0 c.if-t-eq0.false (same_at (g.O.MonomialOrder.model c.args.order.now) (measured_term c.new.result) c.args.t c.args.work.now c.args.start _ c.new.ensures c.find_place-p.ensures.at) (sym c.if-here.false ∙ same_here (g.O.MonomialOrder.model c.args.order.now) (measured_term c.new.result) c.args.t c.args.work.now c.args.start _ c.new.ensures c.find_place-p.ensures.here) in (
       omega arith,
-      ap Ok c.put-in.ensures.list ∙ sym (rw (ne_eqb s 0 c.if-start-eq0.false) at w),
-      blanks_less xs c.put-in.new.work s (s - 1) (omega arith) c.put-in.ensures.rest,
+      ap Ok c.put_in.ensures.list ∙ sym (rw (ne_eqb s 0 c.if-start-eq0.false) at w),
+      blanks_less xs c.put_in.new.work s (s - 1) (omega arith) c.put_in.ensures.rest,
     )

@@ -23,8 +23,8 @@ half s i l h = let e : 2 ^ (64 - i) ≡ 2 ^ (64 - (i + 1)) * 2 = ap (λ n. 2 ^ n
 below : (s i : ℕ) → i < 64 → s < 2 ^ (64 + i) → s * 2 < 2 ^ 128
 below s i l h = let t = twice s i h in let p : 2 ^ (64 + (i + 1)) ≤ 2 ^ 128 = pow_mono {i = 64 + (i + 1)} {j = 128} (omega arith) in omega arith
 
-pub overflow-mul-shifted : goal.overflow-mul-shifted
-overflow-mul-shifted c =
+pub overflow_mul-shifted : goal.overflow_mul-shifted
+overflow_mul-shifted c =
     let l = turns c.loop-left.left c.loop-left.invariant.0 c.loop-left-test.true c.loop-left.invariant.1 c.loop-left.invariant.2 in
     omega (arith, below c.loop-left.shifted c.loop-left.invariant.0 l c.loop-left.invariant.3)
 

@@ -8,8 +8,8 @@ use Rattle.words.proofs.row.row_inversions.Goals as goal
 pub loop-i-init : goal.loop-i-init
 loop-i-init c = (omega arith, omega arith, counted_none (letters c.args.row.now))
 
-pub returns-then-not-is-letter : goal.returns-then-not-is-letter
-returns-then-not-is-letter c =
+pub returns-then-not-is_letter : goal.returns-then-not-is_letter
+returns-then-not-is_letter c =
     let row = c.args.row.now in
     let l = c.loop-i in
     let s = letters_stop row l.i (omega arith) (cc) in
@@ -32,8 +32,8 @@ loop-j-init c =
     let l = c.loop-i in
     (omega arith, omega arith, counted_cut l.i l.seen l.sum (inversions (letters row)) row (omega arith) l.invariant.2)
 
-pub returns-then-not-is-letter-2 : goal.returns-then-not-is-letter-2
-returns-then-not-is-letter-2 c =
+pub returns-then-not-is_letter-2 : goal.returns-then-not-is_letter-2
+returns-then-not-is_letter-2 c =
     let row = c.args.row.now in
     let l = c.loop-j in
     let s = letters_stop row l.j (omega arith) (cc) in

@@ -5,14 +5,14 @@ use Rattle.words.specs.Inversions.{falls, leftmost_inversion}
 use Rattle.words.proofs.Rising.{falls_here, falls_later}
 use Rattle.words.proofs.row.row_leftmost_inversion.Goals as goal
 
-pub returns-then-not-is-letter : goal.returns-then-not-is-letter
-returns-then-not-is-letter c = sym (ap leftmost_inversion (letters_stop c.args.row.now 0 (omega arith) (cc)))
+pub returns-then-not-is_letter : goal.returns-then-not-is_letter
+returns-then-not-is_letter c = sym (ap leftmost_inversion (letters_stop c.args.row.now 0 (omega arith) (cc)))
 
 pub loop-i-init : goal.loop-i-init
 loop-i-init c = sym (ap leftmost_inversion (letters-go c.args.row.now 0 (omega arith) (cc)))
 
-pub returns-then-not-is-letter-2 : goal.returns-then-not-is-letter-2
-returns-then-not-is-letter-2 c =
+pub returns-then-not-is_letter-2 : goal.returns-then-not-is_letter-2
+returns-then-not-is_letter-2 c =
     let s = ap (falls (c.loop-i.i - 1) (get_or c.args.row.now (c.loop-i.i - 1) 0)) (letters_stop c.args.row.now c.loop-i.i (omega arith) (cc)) in
     sym s ∙ c.loop-i.invariant
 

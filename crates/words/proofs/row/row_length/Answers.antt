@@ -3,8 +3,8 @@ use Rattle.orders.specs.Letters.{is_letter}
 use Rattle.orders.proofs.Steps.{letters_stop, letters-go, letters-end}
 use Rattle.words.proofs.row.row_length.Goals as goal
 
-pub returns-then-not-is-letter : goal.returns-then-not-is-letter
-returns-then-not-is-letter c =
+pub returns-then-not-is_letter : goal.returns-then-not-is_letter
+returns-then-not-is_letter c =
     let s = ap length (letters_stop c.args.row.now c.loop-x.x-index (omega arith) (cc)) in
     record { value = omega arith; bound = omega arith }
 

@@ -14,17 +14,17 @@ returns-then-d-radix c =
     let d = read_digits-more c.args.radix c.loop-c.n c.args.text.now c.loop-c.c-index (omega arith) in
     grind (arith, nat_tests)
 
-pub returns-in-default : goal.returns-in-default
-returns-in-default c =
+pub returns-in_default : goal.returns-in_default
+returns-in_default c =
     let d = read_digits-more c.args.radix c.loop-c.n c.args.text.now c.loop-c.c-index (omega arith) in
-    let over = c.in-default.ensures in
+    let over = c.in_default.ensures in
     grind (arith, nat_tests)
 
-pub returns-in-default-checked-add : goal.returns-in-default-checked-add
-returns-in-default-checked-add c =
+pub returns-in_default-checked_add : goal.returns-in_default-checked_add
+returns-in_default-checked_add c =
     let d = read_digits-more c.args.radix c.loop-c.n c.args.text.now c.loop-c.c-index (omega arith) in
     let shifted = c.in-Some.ensures in
-    let over = c.in-default-checked-add.ensures in
+    let over = c.in_default-checked_add.ensures in
     grind (arith, nat_tests)
 
 pub loop-c-preserved : goal.loop-c-preserved

@@ -6,8 +6,8 @@ use Rattle.integers.proofs.Fits.{product-fits}
 use Rattle.integers.proofs.integers.IntegersRing.product.Goals as goal
 
 -- the factors and their product fit
-pub overflow-mul-x : goal.overflow-mul-x
-overflow-mul-x c =
+pub overflow_mul-x : goal.overflow_mul-x
+overflow_mul-x c =
     let x : SFits w64 c.value-x.result = search rules in
     let y : SFits w64 c.value-y.result = search rules in
     simp to_z-of_z (product-fits c.value-x.result c.value-y.result c.value-x.ensures.bound c.value-y.ensures.bound)

@@ -13,11 +13,11 @@ product c =
     let b : get_or c.counts-counts.result c.loop-i.i 0 < 256 = subst (λ l. get_or l c.loop-i.i 0 < 256) (sym c.counts-counts.ensures) (counts_lt c.args.image.now c.loop-i.i) in
     mul-le c.value.result (get_or c.counts-counts.result c.loop-i.i 0) 255 255 (omega arith) (omega arith)
 
-pub overflow-mul-sum : goal.overflow-mul-sum
-overflow-mul-sum c = let p = product c in omega arith
+pub overflow_mul-sum : goal.overflow_mul-sum
+overflow_mul-sum c = let p = product c in omega arith
 
-pub overflow-add-sum : goal.overflow-add-sum
-overflow-add-sum c = let p = product c in omega arith
+pub overflow_add-sum : goal.overflow_add-sum
+overflow_add-sum c = let p = product c in omega arith
 
 pub loop-i-preserved : goal.loop-i-preserved
 loop-i-preserved c =

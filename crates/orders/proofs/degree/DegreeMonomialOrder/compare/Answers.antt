@@ -10,5 +10,5 @@ returns-in-Equal c =
     let ws = weight_values c.args.self.now.weights in
     let u = counts c.args.a.now in
     let v = counts c.args.b.now in
-    let e = difference-equal u v (sym c.first-difference-by-counts.ensures ∙ c.in-Equal.is) in
+    let e = difference-equal u v (sym c.first_difference-by_counts.ensures ∙ c.in-Equal.is) in
     sym (ap (λ w. first_difference (dot ws u ∷ u) (dot ws w ∷ w)) (sym e) ∙ difference-same (dot ws u ∷ u))

@@ -6,9 +6,9 @@ use Rattle.orders.proofs.Packing.{packing, packing-counts, unit_of, unit_le}
 use Rattle.orders.proofs.Steps.{letters_stop, letters-go, letters-end, letter_bounds}
 use Rattle.orders.proofs.image.Image.of_row.Goals as goal
 
-pub returns-then-not-is-letter : goal.returns-then-not-is-letter
+pub returns-then-not-is_letter : goal.returns-then-not-is_letter
 unfolding counts
-returns-then-not-is-letter c =
+returns-then-not-is_letter c =
     let row = c.args.row.now in
     let i = c.loop-x.x-index in
     let s = ap packing (letters_stop row i (omega arith) (cc)) in

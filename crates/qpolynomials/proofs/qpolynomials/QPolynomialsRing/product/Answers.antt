@@ -6,11 +6,11 @@ use Rattle.qpolynomials.proofs.qpolynomials.QPolynomialsRing.product.Goals as go
 pub returns-then-all : goal.returns-then-all
 returns-then-all c = record {
   value = search rules;
-  degree = λ d e g h. sym (degree_small (d + e) (times c.args.a c.args.b) (degree_times d e c.args.a c.args.b g h) (omega (arith, c.product-bits-all.ensures)));
+  degree = λ d e g h. sym (degree_small (d + e) (times c.args.a c.args.b) (degree_times d e c.args.a c.args.b g h) (omega (arith, c.product_bits-all.ensures)));
 }
 
 pub returns-else-all : goal.returns-else-all
 returns-else-all c = record {
   value = search rules;
-  degree = λ d e g h. sym (degree_large (d + e) (times c.args.a c.args.b) (degree_times d e c.args.a c.args.b g h) (omega (arith, c.product-bits-all.ensures)));
+  degree = λ d e g h. sym (degree_large (d + e) (times c.args.a c.args.b) (degree_times d e c.args.a c.args.b g h) (omega (arith, c.product_bits-all.ensures)));
 }

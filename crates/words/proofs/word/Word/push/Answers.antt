@@ -8,11 +8,13 @@ use Rattle.words.proofs.word.Word.push.Goals as goal
 letter : (x : ℕ) → (x ≡ 0 → ⊥) → x ≤ 8 → is_letter x ≡ true
 letter x n h = and_from (ltb 0 x) (leb x 8) (lt-ltb 0 x (omega arith)) (le-leb x 8 h)
 
-pub invariant-of-self : goal.invariant-of-self
-invariant-of-self c =
+pub invariant_of-self : goal.invariant_of-self
+invariant_of-self c =
     let row = c.args.self.now.row in
     let e = c.len-n.ensures.value in
-    (subst (λ n. is_row (set row n c.args.letter) ≡ true) (sym e) (row_push row c.args.letter c.args.self.now.filled (omega arith) (letter c.args.letter c.if-letter-eq0.false (omega arith))), tt)
+    record {
+      filled = subst (λ n. is_row (set row n c.args.letter) ≡ true) (sym e) (row_push row c.args.letter c.args.self.now.filled (omega arith) (letter c.args.letter c.if-letter-eq0.false (omega arith)));
+    }
 
 pub returns : goal.returns
 returns c =

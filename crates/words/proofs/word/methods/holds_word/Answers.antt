@@ -5,7 +5,7 @@ use Rattle.std.proofs.lemmas.List.{drop_all}
 use Rattle.words.specs.Rows.{is_row, all_zero}
 use Rattle.words.proofs.Filling.{row_more, zero_more}
 use Rattle.words.proofs.word.methods.holds_word.Goals as goal
-use Rattle.words.proofs.word.methods.holds_word.Goals.{then-ended+else-x-ne0, then-ended-via-then-ended, then-ended-via-else-ended+then-not-is-letter, else-ended+else-not-is-letter}
+use Rattle.words.proofs.word.methods.holds_word.Goals.{then-ended+else-x-ne0, then-ended-via-then-ended, then-ended-via-else-ended+then-not-is_letter, else-ended+else-not-is_letter}
 
 pub returns-then-x-ne0 : goal.returns-then-x-ne0
 returns-then-x-ne0 c =
@@ -14,7 +14,7 @@ returns-then-x-ne0 c =
     let h = c.loop-x.invariant in
     elim c.then-ended.branch [
       | then-ended-via-then-ended w ↦ grind (arith, nat_tests)
-      | then-ended-via-else-ended+then-not-is-letter w ↦ grind (arith, nat_tests)
+      | then-ended-via-else-ended+then-not-is_letter w ↦ grind (arith, nat_tests)
     ]
 
 pub loop-x-preserved : goal.loop-x-preserved
@@ -26,9 +26,9 @@ loop-x-preserved c =
       | then-ended+else-x-ne0 w ↦
           elim w.then-ended.branch [
             | then-ended-via-then-ended v ↦ grind (arith, nat_tests)
-            | then-ended-via-else-ended+then-not-is-letter v ↦ grind (arith, nat_tests)
+            | then-ended-via-else-ended+then-not-is_letter v ↦ grind (arith, nat_tests)
           ]
-      | else-ended+else-not-is-letter w ↦ grind (arith, nat_tests)
+      | else-ended+else-not-is_letter w ↦ grind (arith, nat_tests)
     ]
 
 pub returns : goal.returns
