@@ -156,7 +156,7 @@ pub(crate) fn run_overlap<R: Ring, O: MonomialOrder>(
     requires least { (0 < i) × (i ≤ 8) }
     requires middle { (0 < j) × (j ≤ 8) }
     requires greatest { (0 < k) × (k ≤ 8) }
-    ensures* { λ r. ⌜ Answered (overlap_run (R.Ring.model ring.now) (O.MonomialOrder.model order.now) (record { work = length work.entry.now; result = length out.old }) table.now i j k) work.exit.now out.new r ⌝ }
+    ensures { Answered (overlap_run (R.Ring.model ring.now) (O.MonomialOrder.model order.now) (record { work = length work.old; result = length out.old }) table.now i j k) work.new out.new result }
 {
     blank_all(work);
     blank_all(out);

@@ -41,7 +41,7 @@ fn decide_triple<R: Ring, O: MonomialOrder>(
     requires least { (0 < i) × (i ≤ 8) }
     requires middle { (0 < j) × (j ≤ 8) }
     requires greatest { (0 < k) × (k ≤ 8) }
-    ensures* value { λ r. ⌜ r ≡ after_overlap (record { i = i; j = j; k = k }) (overlap_run (R.Ring.model ring.now) (O.MonomialOrder.model order.now) (record { work = length work.entry.now; result = length out.old }) table.now i j k) (Ok Sound) ⌝ }
+    ensures value { result ≡ after_overlap (record { i = i; j = j; k = k }) (overlap_run (R.Ring.model ring.now) (O.MonomialOrder.model order.now) (record { work = length work.old; result = length out.old }) table.now i j k) (Ok Sound) }
     ensures blank_work { work.new ≡ blanks (length work.old) }
     ensures blank_out { out.new ≡ blanks (length out.old) }
 {
@@ -79,7 +79,7 @@ fn decide_at<R: Ring, O: MonomialOrder>(
     requires greatest { (0 < k) × (k ≤ 8) }
     requires blank_work { work.old ≡ blanks (length work.old) }
     requires blank_out { out.old ≡ blanks (length out.old) }
-    ensures* value { λ r. ⌜ r ≡ decide_over (R.Ring.model ring.now) (O.MonomialOrder.model order.now) (record { work = length work.entry.now; result = length out.old }) table.now (triple_at i j k) ⌝ }
+    ensures value { result ≡ decide_over (R.Ring.model ring.now) (O.MonomialOrder.model order.now) (record { work = length work.old; result = length out.old }) table.now (triple_at i j k) }
     ensures blank_work { work.new ≡ blanks (length work.old) }
     ensures blank_out { out.new ≡ blanks (length out.old) }
 {
@@ -106,7 +106,7 @@ fn decide_two<R: Ring, O: MonomialOrder>(
     requires middle { (0 < j) × (j ≤ 8) }
     requires blank_work { work.old ≡ blanks (length work.old) }
     requires blank_out { out.old ≡ blanks (length out.old) }
-    ensures* value { λ r. ⌜ r ≡ decide_over (R.Ring.model ring.now) (O.MonomialOrder.model order.now) (record { work = length work.entry.now; result = length out.old }) table.now (triples_of_two n i j) ⌝ }
+    ensures value { result ≡ decide_over (R.Ring.model ring.now) (O.MonomialOrder.model order.now) (record { work = length work.old; result = length out.old }) table.now (triples_of_two n i j) }
     ensures blank_work { work.new ≡ blanks (length work.old) }
     ensures blank_out { out.new ≡ blanks (length out.old) }
 {
@@ -133,7 +133,7 @@ fn decide_one<R: Ring, O: MonomialOrder>(
     requires least { (0 < i) × (i ≤ 8) }
     requires blank_work { work.old ≡ blanks (length work.old) }
     requires blank_out { out.old ≡ blanks (length out.old) }
-    ensures* value { λ r. ⌜ r ≡ decide_over (R.Ring.model ring.now) (O.MonomialOrder.model order.now) (record { work = length work.entry.now; result = length out.old }) table.now (triples_of_one n i) ⌝ }
+    ensures value { result ≡ decide_over (R.Ring.model ring.now) (O.MonomialOrder.model order.now) (record { work = length work.old; result = length out.old }) table.now (triples_of_one n i) }
     ensures blank_work { work.new ≡ blanks (length work.old) }
     ensures blank_out { out.new ≡ blanks (length out.old) }
 {
@@ -158,7 +158,7 @@ pub(crate) fn decide_all<R: Ring, O: MonomialOrder>(
     requires bound { n ≤ 8 }
     requires blank_work { work.old ≡ blanks (length work.old) }
     requires blank_out { out.old ≡ blanks (length out.old) }
-    ensures* value { λ r. ⌜ r ≡ decide_over (R.Ring.model ring.now) (O.MonomialOrder.model order.now) (record { work = length work.entry.now; result = length out.old }) table.now (triples n) ⌝ }
+    ensures value { result ≡ decide_over (R.Ring.model ring.now) (O.MonomialOrder.model order.now) (record { work = length work.old; result = length out.old }) table.now (triples n) }
     ensures blank_work { work.new ≡ blanks (length work.old) }
     ensures blank_out { out.new ≡ blanks (length out.old) }
 {

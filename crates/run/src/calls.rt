@@ -20,7 +20,7 @@ pub fn normalise<R: Ring, O: MonomialOrder>(
     work: &mut [Term],
     out: &mut [Term],
 ) -> Result<(usize, u64), RunFault>
-    ensures* { λ r. ⌜ Answered (calculate (R.Ring.model ring.now) (O.MonomialOrder.model order.now) table.now (record { work = length work.entry.now; result = length out.old }) (first_entries 1 list.now)) work.exit.now out.new r ⌝ }
+    ensures { Answered (calculate (R.Ring.model ring.now) (O.MonomialOrder.model order.now) table.now (record { work = length work.old; result = length out.old }) (first_entries 1 list.now)) work.new out.new result }
 {
     blank_all(work);
     blank_all(out);
@@ -39,7 +39,7 @@ pub fn sum<R: Ring, O: MonomialOrder>(
     work: &mut [Term],
     out: &mut [Term],
 ) -> Result<(usize, u64), RunFault>
-    ensures* { λ r. ⌜ Answered (calculate (R.Ring.model ring.now) (O.MonomialOrder.model order.now) table.now (record { work = length work.entry.now; result = length out.old }) (first_entries 1 first.now ++ second_entries 1 second.now)) work.exit.now out.new r ⌝ }
+    ensures { Answered (calculate (R.Ring.model ring.now) (O.MonomialOrder.model order.now) table.now (record { work = length work.old; result = length out.old }) (first_entries 1 first.now ++ second_entries 1 second.now)) work.new out.new result }
 {
     blank_all(work);
     blank_all(out);
@@ -58,7 +58,7 @@ pub fn difference<R: Ring, O: MonomialOrder>(
     work: &mut [Term],
     out: &mut [Term],
 ) -> Result<(usize, u64), RunFault>
-    ensures* { λ r. ⌜ Answered (calculate (R.Ring.model ring.now) (O.MonomialOrder.model order.now) table.now (record { work = length work.entry.now; result = length out.old }) (first_entries 1 first.now ++ negated_entries (R.Ring.model ring.now) 1 second.now)) work.exit.now out.new r ⌝ }
+    ensures { Answered (calculate (R.Ring.model ring.now) (O.MonomialOrder.model order.now) table.now (record { work = length work.old; result = length out.old }) (first_entries 1 first.now ++ negated_entries (R.Ring.model ring.now) 1 second.now)) work.new out.new result }
 {
     blank_all(work);
     blank_all(out);
@@ -77,7 +77,7 @@ pub fn product<R: Ring, O: MonomialOrder>(
     work: &mut [Term],
     out: &mut [Term],
 ) -> Result<(usize, u64), RunFault>
-    ensures* { λ r. ⌜ Answered (calculate (R.Ring.model ring.now) (O.MonomialOrder.model order.now) table.now (record { work = length work.entry.now; result = length out.old }) (product_entries (R.Ring.model ring.now) 1 first.now second.now)) work.exit.now out.new r ⌝ }
+    ensures { Answered (calculate (R.Ring.model ring.now) (O.MonomialOrder.model order.now) table.now (record { work = length work.old; result = length out.old }) (product_entries (R.Ring.model ring.now) 1 first.now second.now)) work.new out.new result }
 {
     blank_all(work);
     blank_all(out);

@@ -73,7 +73,7 @@ impl<R: Ring, O: MonomialOrder> Closed<R, O> {
         work: &mut [Term],
         out: &mut [Term],
     ) -> Result<(usize, u64), AlgebraFault>
-        ensures* answer { λ r. ⌜ Answered (normal_form (R.Ring.model self.now.ring) (O.MonomialOrder.model self.now.order) (record { work = length work.entry.now; result = length out.old }) self.now.count.n self.now.table self.now.verdict list.now) work.exit.now out.new r ⌝ }
+        ensures answer { Answered (normal_form (R.Ring.model self.now.ring) (O.MonomialOrder.model self.now.order) (record { work = length work.old; result = length out.old }) self.now.count.n self.now.table self.now.verdict list.now) work.new out.new result }
         ensures meaning { Valid (R.Ring.model self.now.ring) (O.MonomialOrder.model self.now.order) self.now.count.n self.now.table → Formed (R.Ring.model self.now.ring) self.now.count.n self.now.table (sum_of (R.Ring.model self.now.ring) list.now) out.new result }
     {
         match self.check_one(list) {
@@ -93,7 +93,7 @@ impl<R: Ring, O: MonomialOrder> Closed<R, O> {
         work: &mut [Term],
         out: &mut [Term],
     ) -> Result<(usize, u64), AlgebraFault>
-        ensures* answer { λ r. ⌜ Answered (sum_form (R.Ring.model self.now.ring) (O.MonomialOrder.model self.now.order) (record { work = length work.entry.now; result = length out.old }) self.now.count.n self.now.table self.now.verdict first.now second.now) work.exit.now out.new r ⌝ }
+        ensures answer { Answered (sum_form (R.Ring.model self.now.ring) (O.MonomialOrder.model self.now.order) (record { work = length work.old; result = length out.old }) self.now.count.n self.now.table self.now.verdict first.now second.now) work.new out.new result }
         ensures meaning { Valid (R.Ring.model self.now.ring) (O.MonomialOrder.model self.now.order) self.now.count.n self.now.table → Formed (R.Ring.model self.now.ring) self.now.count.n self.now.table (sum_of (R.Ring.model self.now.ring) first.now ++ sum_of (R.Ring.model self.now.ring) second.now) out.new result }
     {
         match self.check_two(first, second) {
@@ -121,7 +121,7 @@ impl<R: Ring, O: MonomialOrder> Closed<R, O> {
         work: &mut [Term],
         out: &mut [Term],
     ) -> Result<(usize, u64), AlgebraFault>
-        ensures* answer { λ r. ⌜ Answered (difference_form (R.Ring.model self.now.ring) (O.MonomialOrder.model self.now.order) (record { work = length work.entry.now; result = length out.old }) self.now.count.n self.now.table self.now.verdict first.now second.now) work.exit.now out.new r ⌝ }
+        ensures answer { Answered (difference_form (R.Ring.model self.now.ring) (O.MonomialOrder.model self.now.order) (record { work = length work.old; result = length out.old }) self.now.count.n self.now.table self.now.verdict first.now second.now) work.new out.new result }
         ensures meaning { Valid (R.Ring.model self.now.ring) (O.MonomialOrder.model self.now.order) self.now.count.n self.now.table → Formed (R.Ring.model self.now.ring) self.now.count.n self.now.table (sum_of (R.Ring.model self.now.ring) first.now ++ negate (sum_of (R.Ring.model self.now.ring) second.now)) out.new result }
     {
         match self.check_two(first, second) {
@@ -149,7 +149,7 @@ impl<R: Ring, O: MonomialOrder> Closed<R, O> {
         work: &mut [Term],
         out: &mut [Term],
     ) -> Result<(usize, u64), AlgebraFault>
-        ensures* answer { λ r. ⌜ Answered (product_form (R.Ring.model self.now.ring) (O.MonomialOrder.model self.now.order) (record { work = length work.entry.now; result = length out.old }) self.now.count.n self.now.table self.now.verdict first.now second.now) work.exit.now out.new r ⌝ }
+        ensures answer { Answered (product_form (R.Ring.model self.now.ring) (O.MonomialOrder.model self.now.order) (record { work = length work.old; result = length out.old }) self.now.count.n self.now.table self.now.verdict first.now second.now) work.new out.new result }
         ensures meaning { Valid (R.Ring.model self.now.ring) (O.MonomialOrder.model self.now.order) self.now.count.n self.now.table → Formed (R.Ring.model self.now.ring) self.now.count.n self.now.table (times (sum_of (R.Ring.model self.now.ring) first.now) (sum_of (R.Ring.model self.now.ring) second.now)) out.new result }
     {
         match self.check_two(first, second) {

@@ -17,7 +17,7 @@ use words::term::Term;
 impl<R: Ring, O: MonomialOrder> Closed<R, O> {
     // What is known already, or what the overlaps say.
     fn decided(&self, work: &mut [Term], out: &mut [Term]) -> Result<Verdict, DecideFault>
-        ensures* value { λ r. ⌜ r ≡ decision (R.Ring.model self.now.ring) (O.MonomialOrder.model self.now.order) (record { work = length work.entry.now; result = length out.old }) self.now.count.n self.now.table self.now.verdict ⌝ }
+        ensures value { result ≡ decision (R.Ring.model self.now.ring) (O.MonomialOrder.model self.now.order) (record { work = length work.old; result = length out.old }) self.now.count.n self.now.table self.now.verdict }
         ensures blank_work { work.new ≡ blanks (length work.old) }
         ensures blank_out { out.new ≡ blanks (length out.old) }
     {
@@ -37,7 +37,7 @@ impl<R: Ring, O: MonomialOrder> Closed<R, O> {
     // refusal leaves it undecided, and a decided algebra repeats its answer. Both memories may hold anything and have any size; afterwards they
     // are blank.
     pub fn decide(&mut self, work: &mut [Term], out: &mut [Term]) -> Result<Verdict, DecideFault>
-        ensures* value { λ r. ⌜ r ≡ decision (R.Ring.model self.old.ring) (O.MonomialOrder.model self.old.order) (record { work = length work.entry.now; result = length out.old }) self.old.count.n self.old.table self.old.verdict ⌝ }
+        ensures value { result ≡ decision (R.Ring.model self.old.ring) (O.MonomialOrder.model self.old.order) (record { work = length work.old; result = length out.old }) self.old.count.n self.old.table self.old.verdict }
         ensures meaning { Valid (R.Ring.model self.old.ring) (O.MonomialOrder.model self.old.order) self.old.count.n self.old.table → TellsTruth (R.Ring.model self.old.ring) self.old.count.n self.old.table self.old.verdict → Decided (R.Ring.model self.old.ring) self.old.count.n self.old.table result }
         ensures verdict { self.new.verdict ≡ verdict_after self.old.verdict result }
         ensures ring_and_order { (self.new.ring ≡ self.old.ring) × (self.new.order ≡ self.old.order) }

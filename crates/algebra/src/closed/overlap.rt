@@ -23,7 +23,7 @@ impl<R: Ring, O: MonomialOrder> Closed<R, O> {
         work: &mut [Term],
         out: &mut [Term],
     ) -> Result<(usize, u64), AlgebraFault>
-        ensures* { λ r. ⌜ Answered (overlap_call (R.Ring.model self.now.ring) (O.MonomialOrder.model self.now.order) (record { work = length work.entry.now; result = length out.old }) self.now.count.n self.now.table i j k) work.exit.now out.new r ⌝ }
+        ensures { Answered (overlap_call (R.Ring.model self.now.ring) (O.MonomialOrder.model self.now.order) (record { work = length work.old; result = length out.old }) self.now.count.n self.now.table i j k) work.new out.new result }
     {
         let n = self.count.value();
         match rising_letters(n, i, j, k) {

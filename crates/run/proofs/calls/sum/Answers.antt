@@ -9,23 +9,23 @@ pub run-requires : goal.run-requires
 run-requires g c =
     let m = g.R.Ring.model c.args.ring.now in
     let o = g.O.MonomialOrder.model c.args.order.now in
-    let w = c.blank-all.new.memory in
+    let w = c.blank_all.new.memory in
     let end : ℕ = length w in
-    let blank = blank_front w (length c.args.work.now) end c.blank-all.ensures (omega arith) (omega arith) in
-    (ready o (load m o end (first_entries 1 c.args.first.now ++ second_entries 1 c.args.second.now) (drop end w)) end w c.load-sum-loaded.new.work c.load-sum-loaded.result blank c.load-sum-loaded.ensures, blank_whole c.blank-all-2.new.memory (length c.args.out.now) c.blank-all-2.ensures (omega arith))
+    let blank = blank_front w (length c.args.work.now) end c.blank_all.ensures (omega arith) (omega arith) in
+    (ready o (load m o end (first_entries 1 c.args.first.now ++ second_entries 1 c.args.second.now) (drop end w)) end w c.load_sum-loaded.new.work c.load_sum-loaded.result blank c.load_sum-loaded.ensures, blank_whole c.blank_all-2.new.memory (length c.args.out.now) c.blank_all-2.ensures (omega arith))
 
 pub returns : goal.returns
 returns g c =
     let m = g.R.Ring.model c.args.ring.now in
     let o = g.O.MonomialOrder.model c.args.order.now in
-    let w = c.blank-all.new.memory in
+    let w = c.blank_all.new.memory in
     let end : ℕ = length w in
-    let w1 = c.load-sum-loaded.new.work in
+    let w1 = c.load_sum-loaded.new.work in
     answered c.run.new.work c.run.new.out c.run.result
-    (calculated m o c.args.table.now (length c.args.work.now) (length c.args.out.now) (first_entries 1 c.args.first.now ++ second_entries 1 c.args.second.now) w w1 end (length w1) (length c.blank-all-2.new.memory) c.load-sum-loaded.result c.load-sum-loaded.ensures (omega arith) (omega arith) (omega arith) (omega arith))
+    (calculated m o c.args.table.now (length c.args.work.now) (length c.args.out.now) (first_entries 1 c.args.first.now ++ second_entries 1 c.args.second.now) w w1 end (length w1) (length c.blank_all-2.new.memory) c.load_sum-loaded.result c.load_sum-loaded.ensures (omega arith) (omega arith) (omega arith) (omega arith))
     c.run.ensures
 
-pub load-sum-loaded-requires : goal.load-sum-loaded-requires
-load-sum-loaded-requires g c =
-    let w = c.blank-all.new.memory in
+pub load_sum-loaded-requires : goal.load_sum-loaded-requires
+load_sum-loaded-requires g c =
+    let w = c.blank_all.new.memory in
     (omega arith, falls_none (g.O.MonomialOrder.model c.args.order.now) w (length w) (omega arith))

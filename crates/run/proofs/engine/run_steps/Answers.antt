@@ -11,23 +11,23 @@ pub returns-then-steps-limit : goal.returns-then-steps-limit
 returns-then-steps-limit g c =
     sym c.loop-at.invariant.3
     ∙ run_limit (g.R.Ring.model c.args.ring.now) (g.O.MonomialOrder.model c.args.order.now) c.args.table.now (length c.args.work.now) (length c.args.out.now) (c.args.limit - c.loop-at.steps) c.loop-at.steps c.loop-at.work (take c.loop-at.count c.loop-at.out) c.loop-at.at c.loop-at-test.true (omega arith)
-    ∙ ap (λ p. Err (record { cause = StepLimit; place = p })) (sym c.at-step-place.ensures)
+    ∙ ap (λ p. Err (record { cause = StepLimit; place = p })) (sym c.at_step-place.ensures)
 
-pub returns-in-err-s : goal.returns-in-err-s
-returns-in-err-s g c =
+pub returns-in_err-s : goal.returns-in_err-s
+returns-in_err-s g c =
     let m = g.R.Ring.model c.args.ring.now in
     let o = g.O.MonomialOrder.model c.args.order.now in
     let steps : ℕ = c.loop-at.steps in
     let x = get_or c.loop-at.work c.loop-at.at nil_term in
     let xs = drop (c.loop-at.at + 1) c.loop-at.work in
     let done = take c.loop-at.count c.loop-at.out in
-    let p = err_from_is_err_and c.from-residual.result c.from-residual.ensures.1 in
+    let p = err_from_is_err_and c.from_residual.result c.from_residual.ensures.1 in
     rw (p.1, p.2)
     (sym c.loop-at.invariant.3
     ∙ run_fault m o c.args.table.now (length c.args.work.now) (length c.args.out.now) (c.args.limit - steps) steps c.loop-at.work done c.loop-at.at (c.args.limit - (steps + 1)) _ c.loop-at-test.true (omega arith)
     (ap (λ n. step_of m o c.args.table.now n (length c.args.out.now) (steps + 1) x xs done) (sym c.loop-at.auto.work)
     ∙ ap (λ n. step_of m o c.args.table.now (length c.loop-at.work) n (steps + 1) x xs done) (sym c.loop-at.auto.out)
-    ∙ c.in-err-s.ensures))
+    ∙ c.in_err-s.ensures))
 
 pub loop-at-preserved : goal.loop-at-preserved
 loop-at-preserved g c =
@@ -37,7 +37,7 @@ loop-at-preserved g c =
     let x = get_or c.loop-at.work c.loop-at.at nil_term in
     let xs = drop (c.loop-at.at + 1) c.loop-at.work in
     let done = take c.loop-at.count c.loop-at.out in
-    let h = c.in-ok-s.ensures in (
+    let h = c.in_ok-s.ensures in (
       h.0,
       h.1,
       omega arith,

@@ -5,13 +5,13 @@ use Rattle.run.proofs.Entering.{added_is, room}
 use Rattle.run.proofs.Falling.{added-falls}
 use Rattle.run.proofs.entry.added.Goals as goal
 
-pub returns-in-err-at : goal.returns-in-err-at
-returns-in-err-at g c =
+pub returns-in_err-at : goal.returns-in_err-at
+returns-in_err-at g c =
     let xs = drop c.args.start c.args.work.now in
-    let p = err_from_is_err_and c.from-residual-in-err-at.result c.from-residual-in-err-at.ensures.1 in
+    let p = err_from_is_err_and c.from_residual-in_err-at.result c.from_residual-in_err-at.ensures.1 in
     rw (p.1, p.2)
-    (added_is (g.R.Ring.model c.args.ring.now) (g.O.MonomialOrder.model c.args.order.now) (length c.args.work.now) c.args.start c.in-ok-code.code c.in-Some.row c.args.row c.args.code xs c.in-Some.is c.in-ok-code.was (room c.args.work.now c.args.start c.requires.0)
-    ∙ ap from_kept c.in-err-at.ensures.1)
+    (added_is (g.R.Ring.model c.args.ring.now) (g.O.MonomialOrder.model c.args.order.now) (length c.args.work.now) c.args.start c.in_ok-code.code c.in-Some.row c.args.row c.args.code xs c.in-Some.is c.in_ok-code.was (room c.args.work.now c.args.start c.requires.0)
+    ∙ ap from_kept c.in_err-at.ensures.1)
 
 pub returns : goal.returns
 returns g c =
@@ -19,6 +19,6 @@ returns g c =
     let o = g.O.MonomialOrder.model c.args.order.now in
     let cap = length c.args.work.now in
     let xs = drop c.args.start c.args.work.now in
-    let h = c.in-ok-at.ensures in
-    let same = ap from_kept h.1 ∙ sym (added_is m o cap c.args.start c.in-ok-code.code c.in-Some.row c.args.row c.args.code xs c.in-Some.is c.in-ok-code.was (room c.args.work.now c.args.start c.requires.0)) in
+    let h = c.in_ok-at.ensures in
+    let same = ap from_kept h.1 ∙ sym (added_is m o cap c.args.start c.in_ok-code.code c.in-Some.row c.args.row c.args.code xs c.in-Some.is c.in_ok-code.was (room c.args.work.now c.args.start c.requires.0)) in
     (h.0, same, h.2, added-falls m o cap c.args.row c.args.code xs _ c.requires.1 (sym same))

@@ -6,16 +6,16 @@ use Rattle.run.specs.Entries.{load}
 use Rattle.run.proofs.Loading.{first_entry, each_on, each_stop, each-end}
 use Rattle.run.proofs.load.load_first.Goals as goal
 
-pub returns-in-err-at : goal.returns-in-err-at
-returns-in-err-at g c =
+pub returns-in_err-at : goal.returns-in_err-at
+returns-in_err-at g c =
     let m = g.R.Ring.model c.args.ring.now in
     let o = g.O.MonomialOrder.model c.args.order.now in
     let cap : ℕ = length c.args.work.now in
     let xs = drop c.loop-i.at c.loop-i.work in
     let want = load m o cap (first_entries 1 c.args.list.now) (drop c.args.start c.args.work.now) in
-    let p = err_from_is_err_and c.from-residual.result c.from-residual.ensures.1 in
+    let p = err_from_is_err_and c.from_residual.result c.from_residual.ensures.1 in
     rw (p.1, p.2)
-    (each_stop m o cap (length c.loop-i.work) (first_entries) (first_entry) (λ p t ts. refl) c.args.list.now c.loop-i.i xs (Some c.clean-row-row.result) (Ok (get_or c.args.list.now c.loop-i.i nil_term).code) c.loading-place.result want (omega arith) c.clean-row-row.ensures (refl) c.loading-place.ensures c.loop-i.auto.work c.loop-i.invariant.1 c.in-err-at.field-0.0 c.in-err-at.ensures)
+    (each_stop m o cap (length c.loop-i.work) (first_entries) (first_entry) (λ p t ts. refl) c.args.list.now c.loop-i.i xs (Some c.clean_row-row.result) (Ok (get_or c.args.list.now c.loop-i.i nil_term).code) c.loading-place.result want (omega arith) c.clean_row-row.ensures (refl) c.loading-place.ensures c.loop-i.auto.work c.loop-i.invariant.1 c.in_err-at.field-0.0 c.in_err-at.ensures)
 
 pub loop-i-preserved : goal.loop-i-preserved
 loop-i-preserved g c =
@@ -24,9 +24,9 @@ loop-i-preserved g c =
     let cap : ℕ = length c.args.work.now in
     let xs = drop c.loop-i.at c.loop-i.work in
     let want = load m o cap (first_entries 1 c.args.list.now) (drop c.args.start c.args.work.now) in
-    let h = c.in-ok-at.ensures in (
+    let h = c.in_ok-at.ensures in (
       h.0,
-      each_on m o cap (length c.loop-i.work) (first_entries) (first_entry) (λ p t ts. refl) c.args.list.now c.loop-i.i xs (Some c.clean-row-row.result) (Ok (get_or c.args.list.now c.loop-i.i nil_term).code) c.loading-place.result want (omega arith) c.clean-row-row.ensures (refl) c.loading-place.ensures c.loop-i.auto.work c.loop-i.invariant.1 (drop c.in-ok-at.at c.add_entry.new.work) h.1,
+      each_on m o cap (length c.loop-i.work) (first_entries) (first_entry) (λ p t ts. refl) c.args.list.now c.loop-i.i xs (Some c.clean_row-row.result) (Ok (get_or c.args.list.now c.loop-i.i nil_term).code) c.loading-place.result want (omega arith) c.clean_row-row.ensures (refl) c.loading-place.ensures c.loop-i.auto.work c.loop-i.invariant.1 (drop c.in_ok-at.at c.add_entry.new.work) h.1,
       λ b. h.2 (c.loop-i.invariant.2 b),
       h.3,
     )

@@ -18,23 +18,23 @@ returns-then-count-out g c =
     let xs = drop (c.args.start + 1) c.args.work.now in
     let done = take c.args.count c.args.out.now in
     let n = length-take-le c.args.count c.args.out.now c.requires.1.1 in
-    ap (λ x. step_of m o c.args.table.now cap out c.args.n x xs done) (sym c.take-first-t.ensures.value)
-    ∙ step-full m o c.args.table.now cap out c.args.n c.take-first-t.result xs done c.in-None.ensures.value (omega arith)
-    ∙ ap (λ p. Err (record { cause = ResultFull; place = p })) (sym c.at-step-place.ensures)
+    ap (λ x. step_of m o c.args.table.now cap out c.args.n x xs done) (sym c.take_first-t.ensures.value)
+    ∙ step-full m o c.args.table.now cap out c.args.n c.take_first-t.result xs done c.in-None.ensures.value (omega arith)
+    ∙ ap (λ p. Err (record { cause = ResultFull; place = p })) (sym c.at_step-place.ensures)
 
-pub returns-in-err-at : goal.returns-in-err-at
-returns-in-err-at g c =
+pub returns-in_err-at-in-Some : goal.returns-in_err-at-in-Some
+returns-in_err-at-in-Some g c =
     let m = g.R.Ring.model c.args.ring.now in
     let o = g.O.MonomialOrder.model c.args.order.now in
     let cap : ℕ = length c.args.work.now in
     let out : ℕ = length c.args.out.now in
     let xs = drop (c.args.start + 1) c.args.work.now in
     let done = take c.args.count c.args.out.now in
-    let p = err_from_is_err_and c.from-residual.result c.from-residual.ensures.1 in
+    let p = err_from_is_err_and c.from_residual.result c.from_residual.ensures.1 in
     rw (p.1, p.2)
-    (ap (λ x. step_of m o c.args.table.now cap out c.args.n x xs done) (sym c.take-first-t.ensures.value)
-    ∙ step-worked m o c.args.table.now cap out c.args.n c.take-first-t.result xs done c.in-Some.k (length c.take-first-t.new.work) (drop (c.args.start + 1) c.take-first-t.new.work) c.in-Some.ensures.value (omega arith) c.take-first-t.ensures.list
-    ∙ ap (worked done) c.in-err-at.ensures)
+    (ap (λ x. step_of m o c.args.table.now cap out c.args.n x xs done) (sym c.take_first-t.ensures.value)
+    ∙ step-worked m o c.args.table.now cap out c.args.n c.take_first-t.result xs done c.in-Some.k (length c.take_first-t.new.work) (drop (c.args.start + 1) c.take_first-t.new.work) c.in-Some.ensures.value (omega arith) c.take_first-t.ensures.list
+    ∙ ap (worked done) c.in_err-at-in-Some.ensures)
 
 pub returns-else-count-out : goal.returns-else-count-out
 returns-else-count-out g c =
@@ -47,34 +47,34 @@ returns-else-count-out g c =
     let n = length-take-le c.args.count c.args.out.now c.requires.1.1 in (
       omega arith,
       omega arith,
-      state c.take-first-t.ensures.list c.append.ensures.list
+      state c.take_first-t.ensures.list c.append.ensures.list
           ∙ sym
-          (ap (λ x. step_of m o c.args.table.now cap out c.args.n x xs done) (sym c.take-first-t.ensures.value)
-          ∙ step-done m o c.args.table.now cap out c.args.n c.take-first-t.result xs done c.in-None.ensures.value (omega arith)),
-      λ h. (blanks-more c.args.work.now c.take-first-t.new.work c.args.start c.take-first-t.ensures.rest h.0, blank-behind c.args.out.now c.append.new.out c.args.count (omega arith) c.append.ensures.rest h.1),
-      subst (Falls o) (sym c.take-first-t.ensures.list) (falls-rest o c.args.work.now c.args.start c.requires.0 c.requires.1.0),
+          (ap (λ x. step_of m o c.args.table.now cap out c.args.n x xs done) (sym c.take_first-t.ensures.value)
+          ∙ step-done m o c.args.table.now cap out c.args.n c.take_first-t.result xs done c.in-None.ensures.value (omega arith)),
+      λ h. (blanks-more c.args.work.now c.take_first-t.new.work c.args.start c.take_first-t.ensures.rest h.0, blank-behind c.args.out.now c.append.new.out c.args.count (omega arith) c.append.ensures.rest h.1),
+      subst (Falls o) (sym c.take_first-t.ensures.list) (falls-rest o c.args.work.now c.args.start c.requires.0 c.requires.1.0),
     )
 
-pub returns-in-ok-at : goal.returns-in-ok-at
-returns-in-ok-at g c =
+pub returns-in_ok-at-in-Some : goal.returns-in_ok-at-in-Some
+returns-in_ok-at-in-Some g c =
     let m = g.R.Ring.model c.args.ring.now in
     let o = g.O.MonomialOrder.model c.args.order.now in
     let cap : ℕ = length c.args.work.now in
     let out : ℕ = length c.args.out.now in
     let xs = drop (c.args.start + 1) c.args.work.now in
     let done = take c.args.count c.args.out.now in
-    let h = c.in-ok-at.ensures in (
+    let h = c.in_ok-at-in-Some.ensures in (
       h.0,
       c.requires.1.1,
       ap (worked done) h.1
           ∙ sym
-          (ap (λ x. step_of m o c.args.table.now cap out c.args.n x xs done) (sym c.take-first-t.ensures.value)
-          ∙ step-worked m o c.args.table.now cap out c.args.n c.take-first-t.result xs done c.in-Some.k (length c.take-first-t.new.work) (drop (c.args.start + 1) c.take-first-t.new.work) c.in-Some.ensures.value (omega arith) c.take-first-t.ensures.list),
-      λ b. (h.2 (blanks-more c.args.work.now c.take-first-t.new.work c.args.start c.take-first-t.ensures.rest b.0), b.1),
+          (ap (λ x. step_of m o c.args.table.now cap out c.args.n x xs done) (sym c.take_first-t.ensures.value)
+          ∙ step-worked m o c.args.table.now cap out c.args.n c.take_first-t.result xs done c.in-Some.k (length c.take_first-t.new.work) (drop (c.args.start + 1) c.take_first-t.new.work) c.in-Some.ensures.value (omega arith) c.take_first-t.ensures.list),
+      λ b. (h.2 (blanks-more c.args.work.now c.take_first-t.new.work c.args.start c.take_first-t.ensures.rest b.0), b.1),
       h.3,
     )
 
 pub rewrite-requires : goal.rewrite-requires
 rewrite-requires g c =
     let o = g.O.MonomialOrder.model c.args.order.now in
-    (omega arith, (subst (Falls o) (sym c.take-first-t.ensures.list) (falls-rest o c.args.work.now c.args.start c.requires.0 c.requires.1.0), c.in-Some.ensures.within))
+    (omega arith, (subst (Falls o) (sym c.take_first-t.ensures.list) (falls-rest o c.args.work.now c.args.start c.requires.0 c.requires.1.0), c.in-Some.ensures.within))

@@ -6,4 +6,4 @@ use Rattle.run.proofs.substitute.exchanged_row.Goals as goal
 pub returns : goal.returns
 returns c =
     let l = letters_le c.args.row.now in
-    exchanged c.args.row.now c.clean-row-new.result c.args.k c.args.i c.args.j c.clean-row-new.ensures c.requires (omega arith)
+    exchanged c.args.row.now c.clean_row-new.result c.args.k c.args.i c.args.j c.clean_row-new.ensures c.requires (omega arith)

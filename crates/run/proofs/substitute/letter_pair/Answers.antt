@@ -7,8 +7,8 @@ use Rattle.run.proofs.substitute.letter_pair.Goals as goal
 pub bounds-row-k : goal.bounds-row-k
 bounds-row-k c = omega (arith, letters_le c.args.row.now)
 
-pub overflow-add-result : goal.overflow-add-result
-overflow-add-result c = omega (arith, letters_le c.args.row.now)
+pub overflow_add-result : goal.overflow_add-result
+overflow_add-result c = omega (arith, letters_le c.args.row.now)
 
 pub bounds-row-k-2 : goal.bounds-row-k-2
 bounds-row-k-2 c = omega (arith, letters_le c.args.row.now)

@@ -4,15 +4,15 @@ use Rattle.run.specs.Pieces.{around}
 use Rattle.run.proofs.Splice.{substituted, around-length, rowed_long}
 use Rattle.run.proofs.substitute.substituted_row.Goals as goal
 
-pub returns-then-n-m-gt-ROW-LENGTH : goal.returns-then-n-m-gt-ROW-LENGTH
-returns-then-n-m-gt-ROW-LENGTH c =
+pub returns-then-n-m-gt-ROW_LENGTH : goal.returns-then-n-m-gt-ROW_LENGTH
+returns-then-n-m-gt-ROW_LENGTH c =
     let w = letters c.args.row.now in
     let v = letters c.args.middle.now in
     let e = around-length w v c.args.k c.requires in
-    let n = c.row-length-n.ensures.value in
-    let m = c.row-length-m.ensures.value in
+    let n = c.row_length-n.ensures.value in
+    let m = c.row_length-m.ensures.value in
     rowed_long (around w c.args.k v) (omega arith)
 
 pub returns : goal.returns
 returns c =
-    substituted c.args.row.now c.args.middle.now c.zero-row-new.result c.write-part.new.row c.write-part-2.new.row c.write-part-3.new.row c.args.k c.row-length-n.result c.row-length-m.result c.row-length-n.ensures.value c.row-length-m.ensures.value (omega arith) (omega arith) c.zero-row-new.ensures c.write-part.ensures c.write-part-2.ensures c.write-part-3.ensures
+    substituted c.args.row.now c.args.middle.now c.zero_row-new.result c.write_part.new.row c.write_part-2.new.row c.write_part-3.new.row c.args.k c.row_length-n.result c.row_length-m.result c.row_length-n.ensures.value c.row_length-m.ensures.value (omega arith) (omega arith) c.zero_row-new.ensures c.write_part.ensures c.write_part-2.ensures c.write_part-3.ensures

@@ -4,4 +4,4 @@ use Rattle.run.proofs.substitute.write_part.Goals as goal
 
 pub returns : goal.returns
 returns c =
-    put_mid-paste c.args.at (c.args.at + length c.args.part.now - c.args.at) c.args.row.now c.copy-from-slice.new.self c.args.part.now (length c.args.part.now) c.copy-from-slice.ensures.after (omega arith) refl
+    put_mid-paste c.args.at (c.args.at + length c.args.part.now - c.args.at) c.args.row.now c.copy_from_slice.new.self c.args.part.now (length c.args.part.now) c.copy_from_slice.ensures.after (omega arith) refl

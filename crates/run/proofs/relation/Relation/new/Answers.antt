@@ -6,5 +6,5 @@ use Rattle.run.proofs.relation.Relation.new.Goals as goal
 pub returns : goal.returns
 unfolding tail_of
 returns c =
-    let same = c.copy-from-slice.ensures.after in
-    (refl, take_at c.copy-from-slice.new.self _ (length c.args.tail.now) (ap length same) ∙ same)
+    let same = c.copy_from_slice.ensures.after in
+    (refl, take_at c.copy_from_slice.new.self _ (length c.args.tail.now) (ap length same) ∙ same)
