@@ -6,8 +6,8 @@ use Rattle.run.proofs.Entering.{entered, load_on, load_stop, left_through}
 use Rattle.algebra.specs.Overlaps.{overlap_place, second_half, second_tail}
 use Rattle.algebra.proofs.overlap.load_second_half.Goals as goal
 
-pub returns-in-err-at : goal.returns-in-err-at
-returns-in-err-at g c =
+pub returns-in_err-at : goal.returns-in_err-at
+returns-in_err-at g c =
     let m = g.R.Ring.model c.args.ring.now in
     let o = g.O.MonomialOrder.model c.args.order.now in
     let cap : ℕ = length c.args.work.now in
@@ -18,9 +18,9 @@ returns-in-err-at g c =
     let xs = drop c.args.start c.args.work.now in
     let es = second_half m r i j k in
     let e : Entry = record { word = k ∷ i ∷ j ∷ []; code = m.negative r.factor; place = overlap_place 2 0 } in
-    let same = entered m o cap cap e (Some c.row-of-three-row.result) c.negative_code.result c.place-of-place.result xs c.row-of-three-row.ensures (c.negative_code.ensures ∙ ap m.negative c.factor-factor.ensures) c.place-of-place.ensures refl in
-    let p = err_from_is_err_and c.from-residual.result c.from-residual.ensures.1 in
-    rw (p.1, p.2) (load_stop m o cap es (second_tail m k 1 (tail_of r)) e xs _ (load m o cap es xs) refl same refl c.in-err-at.field-0.0 c.in-err-at.ensures)
+    let same = entered m o cap cap e (Some c.row_of_three-row.result) c.negative-code.result c.place_of-place.result xs c.row_of_three-row.ensures (c.negative-code.ensures ∙ ap m.negative c.factor-factor.ensures) c.place_of-place.ensures refl in
+    let p = err_from_is_err_and c.from_residual.result c.from_residual.ensures.1 in
+    rw (p.1, p.2) (load_stop m o cap es (second_tail m k 1 (tail_of r)) e xs _ (load m o cap es xs) refl same refl c.in_err-at.field-0.0 c.in_err-at.ensures)
 
 pub returns : goal.returns
 returns g c =
@@ -34,13 +34,13 @@ returns g c =
     let xs = drop c.args.start c.args.work.now in
     let es = second_half m r i j k in
     let e : Entry = record { word = k ∷ i ∷ j ∷ []; code = m.negative r.factor; place = overlap_place 2 0 } in
-    let same = entered m o cap cap e (Some c.row-of-three-row.result) c.negative_code.result c.place-of-place.result xs c.row-of-three-row.ensures (c.negative_code.ensures ∙ ap m.negative c.factor-factor.ensures) c.place-of-place.ensures refl in
-    let h = c.in-ok-at.ensures in
+    let same = entered m o cap cap e (Some c.row_of_three-row.result) c.negative-code.result c.place_of-place.result xs c.row_of_three-row.ensures (c.negative-code.ensures ∙ ap m.negative c.factor-factor.ensures) c.place_of-place.ensures refl in
+    let h = c.in_ok-at.ensures in
     let work = c.add_entry.new.work in
-    let ys = drop c.in-ok-at.at work in
+    let ys = drop c.in_ok-at.at work in
     let on = load_on m o cap es (second_tail m k 1 (tail_of r)) e xs _ (load m o cap es xs) refl same refl ys h.1 in
     let long : length work ≡ cap = omega arith in
-    left_through o c.args.start c.in-ok-at.at c.args.work.now work c.load-second-tail.new.work c.load-second-tail.result
+    left_through o c.args.start c.in_ok-at.at c.args.work.now work c.load_second_tail.new.work c.load_second_tail.result
     (ap (λ ts. load m o (length work) (second_tail m k 1 ts) ys) c.tail-tail.ensures ∙ ap (λ l. load m o l (second_tail m k 1 (tail_of r)) ys) long ∙ on)
     h.2
-    c.load-second-tail.ensures
+    c.load_second_tail.ensures

@@ -7,11 +7,11 @@ use Rattle.algebra.specs.Searching.{triples_of_two}
 use Rattle.algebra.proofs.Searching.{search_on, search_stop, search_end, search_start}
 use Rattle.algebra.proofs.search.decide_one.Goals as goal
 
-pub decide-two-answer-requires : goal.decide-two-answer-requires
-decide-two-answer-requires g c =
+pub decide_two-answer-requires : goal.decide_two-answer-requires
+decide_two-answer-requires g c =
     let wide : length c.args.work.now ≡ length c.loop-j.work = omega arith in
     let long : length c.args.out.now ≡ length c.loop-j.out = omega arith in
-    record { bound = c.requires.bound; least = c.requires.least; middle = (omega arith, omega arith); blank-work = c.loop-j.invariant.1 ∙ ap blanks wide; blank-out = c.loop-j.invariant.2 ∙ ap blanks long }
+    record { bound = c.requires.bound; least = c.requires.least; middle = (omega arith, omega arith); blank_work = c.loop-j.invariant.1 ∙ ap blanks wide; blank_out = c.loop-j.invariant.2 ∙ ap blanks long }
 
 pub loop-j-init : goal.loop-j-init
 loop-j-init g c =
@@ -20,7 +20,7 @@ loop-j-init g c =
     let mem : Memory = record { work = length c.args.work.now; result = length c.args.out.now } in
     let table = c.args.table.now in
     let want = decide_over m o mem table (each (triples_of_two c.args.n c.args.i) (range_with_len 1 c.args.n)) in
-    (search_start m o mem table (triples_of_two c.args.n c.args.i) c.args.n, c.requires.blank-work, c.requires.blank-out)
+    (search_start m o mem table (triples_of_two c.args.n c.args.i) c.args.n, c.requires.blank_work, c.requires.blank_out)
 
 pub loop-j-preserved : goal.loop-j-preserved
 loop-j-preserved g c =
@@ -31,15 +31,15 @@ loop-j-preserved g c =
     let want = decide_over m o mem table (each (triples_of_two c.args.n c.args.i) (range_with_len 1 c.args.n)) in
     let wide : length c.loop-j.work ≡ length c.args.work.now = omega arith in
     let long : length c.loop-j.out ≡ length c.args.out.now = omega arith in
-    let x = c.decide-two-answer.result in
+    let x = c.decide_two-answer.result in
     let value : x ≡ decide_over m o mem table (triples_of_two c.args.n c.args.i c.loop-j.j) =
-    c.decide-two-answer.ensures.value
+    c.decide_two-answer.ensures.value
     ∙ ap (λ k. decide_over m o (record { work = k; result = length c.loop-j.out }) table (triples_of_two c.args.n c.args.i c.loop-j.j)) wide
     ∙ ap (λ k. decide_over m o (record { work = length c.args.work.now; result = k }) table (triples_of_two c.args.n c.args.i c.loop-j.j)) long in
-    (search_on m o mem table (triples_of_two c.args.n c.args.i) c.args.n c.loop-j.j want c.loop-j.invariant.0 x (omega arith) value (sym c.if-not-search-goes-on.ensures), c.decide-two-answer.ensures.blank-work ∙ ap blanks wide, c.decide-two-answer.ensures.blank-out ∙ ap blanks long)
+    (search_on m o mem table (triples_of_two c.args.n c.args.i) c.args.n c.loop-j.j want c.loop-j.invariant.0 x (omega arith) value (sym c.if-not-search_goes_on.ensures), c.decide_two-answer.ensures.blank_work ∙ ap blanks wide, c.decide_two-answer.ensures.blank_out ∙ ap blanks long)
 
-pub returns-then-not-search-goes-on : goal.returns-then-not-search-goes-on
-returns-then-not-search-goes-on g c =
+pub returns-then-not-search_goes_on : goal.returns-then-not-search_goes_on
+returns-then-not-search_goes_on g c =
     let m = g.R.Ring.model c.args.ring.now in
     let o = g.O.MonomialOrder.model c.args.order.now in
     let mem : Memory = record { work = length c.args.work.now; result = length c.args.out.now } in
@@ -47,12 +47,12 @@ returns-then-not-search-goes-on g c =
     let want = decide_over m o mem table (each (triples_of_two c.args.n c.args.i) (range_with_len 1 c.args.n)) in
     let wide : length c.loop-j.work ≡ length c.args.work.now = omega arith in
     let long : length c.loop-j.out ≡ length c.args.out.now = omega arith in
-    let x = c.decide-two-answer.result in
+    let x = c.decide_two-answer.result in
     let value : x ≡ decide_over m o mem table (triples_of_two c.args.n c.args.i c.loop-j.j) =
-    c.decide-two-answer.ensures.value
+    c.decide_two-answer.ensures.value
     ∙ ap (λ k. decide_over m o (record { work = k; result = length c.loop-j.out }) table (triples_of_two c.args.n c.args.i c.loop-j.j)) wide
     ∙ ap (λ k. decide_over m o (record { work = length c.args.work.now; result = k }) table (triples_of_two c.args.n c.args.i c.loop-j.j)) long in
-    record { value = search_stop m o mem table (triples_of_two c.args.n c.args.i) c.args.n c.loop-j.j want c.loop-j.invariant.0 x (omega arith) value (sym c.if-not-search-goes-on.ensures); blank-work = c.decide-two-answer.ensures.blank-work ∙ ap blanks wide; blank-out = c.decide-two-answer.ensures.blank-out ∙ ap blanks long }
+    record { value = search_stop m o mem table (triples_of_two c.args.n c.args.i) c.args.n c.loop-j.j want c.loop-j.invariant.0 x (omega arith) value (sym c.if-not-search_goes_on.ensures); blank_work = c.decide_two-answer.ensures.blank_work ∙ ap blanks wide; blank_out = c.decide_two-answer.ensures.blank_out ∙ ap blanks long }
 
 pub returns : goal.returns
 returns g c =
@@ -61,4 +61,4 @@ returns g c =
     let mem : Memory = record { work = length c.args.work.now; result = length c.args.out.now } in
     let table = c.args.table.now in
     let want = decide_over m o mem table (each (triples_of_two c.args.n c.args.i) (range_with_len 1 c.args.n)) in
-    record { value = search_end m o mem table (triples_of_two c.args.n c.args.i) c.args.n c.loop-j.j want c.loop-j.invariant.0 (omega arith); blank-work = c.loop-j.invariant.1; blank-out = c.loop-j.invariant.2 }
+    record { value = search_end m o mem table (triples_of_two c.args.n c.args.i) c.args.n c.loop-j.j want c.loop-j.invariant.0 (omega arith); blank_work = c.loop-j.invariant.1; blank_out = c.loop-j.invariant.2 }

@@ -6,6 +6,6 @@ use Rattle.grammar.proofs.bytes.atom.Goals as goal
 
 pub returns : goal.returns
 returns c =
-    let d = take_rest c.args.s.now c.atom-end-n.result in
-    let z = sub-zero c.atom-end-n.result in
+    let d = take_rest c.args.s.now c.atom_end-n.result in
+    let z = sub-zero c.atom_end-n.result in
     grind (arith, nat_tests)

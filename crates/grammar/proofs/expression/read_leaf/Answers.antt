@@ -7,17 +7,17 @@ use Rattle.grammar.proofs.expression.read_leaf.Goals as goal
 
 pub store-requires : goal.store-requires
 store-requires c =
-    let h = c.in-ok-a.ensures in
-    let s = atom_shrinks c.args.s.now c.in-ok-a.a.now c.in-ok-a.rest.now h in
+    let h = c.in_ok-a.ensures in
+    let s = atom_shrinks c.args.s.now c.in_ok-a.a.now c.in_ok-a.rest.now h in
     omega arith
 
 pub returns : goal.returns
 returns c =
-    let h = c.in-ok-a.ensures in
-    let s = atom_shrinks c.args.s.now c.in-ok-a.a.now c.in-ok-a.rest.now h in
-    let l = c.leaf-of-atom.ensures in
-    let p = postfix-leaf c.in-ok-a.a.now in (
-      leaf c.in-ok-a.a.now,
+    let h = c.in_ok-a.ensures in
+    let s = atom_shrinks c.args.s.now c.in_ok-a.a.now c.in_ok-a.rest.now h in
+    let l = c.leaf_of_atom.ensures in
+    let p = postfix-leaf c.in_ok-a.a.now in (
+      leaf c.in_ok-a.a.now,
       sym (ap (λ x. and_then x (λ q. Ok (leaf q.0, q.1))) h),
       subst (Stored c.args.pieces.now c.store.new.pieces c.args.at (c.args.at + 1)) (ap (λ x. x ∷ []) l ∙ sym p) c.store.ensures,
       omega arith,

@@ -11,8 +11,8 @@ reads s a rest e h k = rw (h, sym k)
 
 pub returns : goal.returns
 returns c =
-    let h = c.in-ok-count.ensures in (
+    let h = c.in_ok-count.ensures in (
       calc h.0,
-      reads c.args.s.now c.in-ok-count.a.now c.in-ok-rest.rest.now h.0 h.1 c.in-ok-rest.ensures,
+      reads c.args.s.now c.in_ok-count.a.now c.in_ok-rest.rest.now h.0 h.1 c.in_ok-rest.ensures,
       (h.0, refl, h.2.holds, omega (arith, h.3, h.2.same_length, c.requires)),
     )

@@ -7,13 +7,13 @@ use Rattle.grammar.specs.FormReader.{whole}
 use Rattle.grammar.proofs.Lengths.{long, short}
 use Rattle.grammar.proofs.reader.read_line.Goals as goal
 
-pub returns-then-line-gt-LINE-LENGTH : goal.returns-then-line-gt-LINE-LENGTH
-returns-then-line-gt-LINE-LENGTH c = long c.args.line.now (omega arith)
+pub returns-then-line-gt-LINE_LENGTH : goal.returns-then-line-gt-LINE_LENGTH
+returns-then-line-gt-LINE_LENGTH c = long c.args.line.now (omega arith)
 
-pub returns-in-err-read : goal.returns-in-err-read
-returns-in-err-read c =
-    let p = err_from_is_err_and c.from-residual.result c.from-residual.ensures.1 in
-    rw (p.1, p.2) (short c.args.line.now (omega arith) ∙ ap whole c.in-err-read.ensures)
+pub returns-in_err-read : goal.returns-in_err-read
+returns-in_err-read c =
+    let p = err_from_is_err_and c.from_residual.result c.from_residual.ensures.1 in
+    rw (p.1, p.2) (short c.args.line.now (omega arith) ∙ ap whole c.in_err-read.ensures)
 
 -- nothing stands behind the form, or something does
 nothing : (f : Form) (rest : List ℕ) → true ≡ eqb (length rest) 0 → whole (Ok (f, rest)) ≡ Ok f
@@ -24,12 +24,12 @@ something : (f : Form) (rest : List ℕ) → false ≡ eqb (length rest) 0 → w
 something f [] h = grind (arith, nat_tests)
 something f (b ∷ rest) h = refl
 
-pub returns-then-not-is-empty : goal.returns-then-not-is-empty
-returns-then-not-is-empty c =
-    let h = c.in-ok-read.ensures in
-    short c.args.line.now (omega arith) ∙ ap whole h.1 ∙ something h.0 c.in-ok-read.rest.now c.if-not-is-empty.ensures
+pub returns-then-not-is_empty : goal.returns-then-not-is_empty
+returns-then-not-is_empty c =
+    let h = c.in_ok-read.ensures in
+    short c.args.line.now (omega arith) ∙ ap whole h.1 ∙ something h.0 c.in_ok-read.rest.now c.if-not-is_empty.ensures
 
 pub returns : goal.returns
 returns c =
-    let h = c.in-ok-read.ensures in
-    (h.0, short c.args.line.now (omega arith) ∙ ap whole h.1 ∙ nothing h.0 c.in-ok-read.rest.now c.if-not-is-empty.ensures, h.2)
+    let h = c.in_ok-read.ensures in
+    (h.0, short c.args.line.now (omega arith) ∙ ap whole h.1 ∙ nothing h.0 c.in_ok-read.rest.now c.if-not-is_empty.ensures, h.2)

@@ -17,17 +17,17 @@ terms-requires c =
     omega (
       arith,
       c.requires,
-      shrinks c.args.s.now c.in-ok-j.a.now c.in-ok-i.b.now c.in-ok-factor.c.now c.in-ok-factor.factor.now c.in-ok-j.j c.in-ok-i.i
-          c.in-ok-j.ensures c.in-ok-i.ensures c.in-ok-factor.ensures,
+      shrinks c.args.s.now c.in_ok-j.a.now c.in_ok-i.b.now c.in_ok-factor.c.now c.in_ok-factor.factor.now c.in_ok-j.j c.in_ok-i.i
+          c.in_ok-j.ensures c.in_ok-i.ensures c.in_ok-factor.ensures,
     )
 
 pub returns : goal.returns
 returns c =
-    let h = c.in-ok-count.ensures in
-    let k = shrinks c.args.s.now c.in-ok-j.a.now c.in-ok-i.b.now c.in-ok-factor.c.now c.in-ok-factor.factor.now c.in-ok-j.j c.in-ok-i.i
-    c.in-ok-j.ensures c.in-ok-i.ensures c.in-ok-factor.ensures in (
-      rel c.in-ok-j.j c.in-ok-i.i c.in-ok-factor.factor.now h.0,
-      reads c.args.s.now c.in-ok-j.a.now c.in-ok-i.b.now c.in-ok-factor.c.now c.in-ok-factor.factor.now c.in-ok-j.j c.in-ok-i.i
-          c.in-ok-j.ensures c.in-ok-i.ensures c.in-ok-factor.ensures h.0 c.in-ok-count.rest.now h.1,
+    let h = c.in_ok-count.ensures in
+    let k = shrinks c.args.s.now c.in_ok-j.a.now c.in_ok-i.b.now c.in_ok-factor.c.now c.in_ok-factor.factor.now c.in_ok-j.j c.in_ok-i.i
+    c.in_ok-j.ensures c.in_ok-i.ensures c.in_ok-factor.ensures in (
+      rel c.in_ok-j.j c.in_ok-i.i c.in_ok-factor.factor.now h.0,
+      reads c.args.s.now c.in_ok-j.a.now c.in_ok-i.b.now c.in_ok-factor.c.now c.in_ok-factor.factor.now c.in_ok-j.j c.in_ok-i.i
+          c.in_ok-j.ensures c.in_ok-i.ensures c.in_ok-factor.ensures h.0 c.in_ok-count.rest.now h.1,
       (h.0, refl, h.2.holds, omega (arith, h.3, h.2.same_length, k, c.requires)),
     )

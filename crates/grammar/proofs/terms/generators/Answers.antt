@@ -11,26 +11,26 @@ use Rattle.grammar.proofs.terms.generators.Goals as goal
 pub loop-next-init : goal.loop-next-init
 loop-next-init c = record { fuel = length c.args.s.now; xs = []; enough = omega arith; goes = refl; stored = stored_none _ _; room = omega arith; no_longer = omega arith }
 
-pub returns-in-err-next : goal.returns-in-err-next
-returns-in-err-next c =
-    let p = err_from_is_err_and c.from-residual.result c.from-residual.ensures.1 in
-    rw (p.1, p.2) (listing_fault c.loop-next.invariant c.in-err-next.field-0.0 c.in-err-next.ensures)
+pub returns-in_err-next : goal.returns-in_err-next
+returns-in_err-next c =
+    let p = err_from_is_err_and c.from_residual.result c.from_residual.ensures.1 in
+    rw (p.1, p.2) (listing_fault c.loop-next.invariant c.in_err-next.field-0.0 c.in_err-next.ensures)
 
 pub returns-in-End : goal.returns-in-End
-returns-in-End c = listing_end c.loop-next.invariant c.in-ok-next.next c.in-ok-next.after.now c.in-End.is c.in-ok-next.ensures
+returns-in-End c = listing_end c.loop-next.invariant c.in_ok-next.next c.in_ok-next.after.now c.in-End.is c.in_ok-next.ensures
 
-pub returns-in-err-x : goal.returns-in-err-x
-returns-in-err-x c =
-    let p = err_from_is_err_and c.from-residual-in-err-x.result c.from-residual-in-err-x.ensures.1 in
-    rw (p.1, p.2) (listing_stops c.loop-next.invariant c.in-ok-next.next c.in-ok-next.after.now c.in-err-x.field-0.0 c.in-Part.is c.in-ok-next.ensures (sym c.in-err-x.ensures))
+pub returns-in_err-x-in-Part : goal.returns-in_err-x-in-Part
+returns-in_err-x-in-Part c =
+    let p = err_from_is_err_and c.from_residual-in_err-x-in-Part.result c.from_residual-in_err-x-in-Part.ensures.1 in
+    rw (p.1, p.2) (listing_stops c.loop-next.invariant c.in_ok-next.next c.in_ok-next.after.now c.in_err-x-in-Part.field-0.0 c.in-Part.is c.in_ok-next.ensures (sym c.in_err-x-in-Part.ensures))
 
 pub loop-next-smaller : goal.loop-next-smaller
 loop-next-smaller c =
-    let s = next_shrinks c.in-ok-next.next c.loop-next.rest.now c.in-ok-next.after.now c.in-ok-next.ensures in
-    omega (arith, s, formed_shrinks generator_of c.in-ok-next.after.now c.in-ok-x.more.now c.in-ok-x.x c.in-ok-x.ensures)
+    let s = next_shrinks c.in_ok-next.next c.loop-next.rest.now c.in_ok-next.after.now c.in_ok-next.ensures in
+    omega (arith, s, formed_shrinks generator_of c.in_ok-next.after.now c.in_ok-x-in-Part.more.now c.in_ok-x-in-Part.x c.in_ok-x-in-Part.ensures)
 
 pub loop-next-preserved : goal.loop-next-preserved
 loop-next-preserved c =
-    let m = formed_shrinks generator_of c.in-ok-next.after.now c.in-ok-x.more.now c.in-ok-x.x c.in-ok-x.ensures in
-    listing_again c.loop-next.invariant c.in-ok-next.next c.in-ok-next.after.now c.in-ok-x.more.now c.in-ok-x.x _ (c.loop-next.n + 1) (a_generator c.in-ok-x.x ∷ [])
-    c.in-Part.is c.in-ok-next.ensures (sym c.in-ok-x.ensures) c.store.ensures (λ ys. map_push a_generator ys c.in-ok-x.x) (omega (arith, m)) m
+    let m = formed_shrinks generator_of c.in_ok-next.after.now c.in_ok-x-in-Part.more.now c.in_ok-x-in-Part.x c.in_ok-x-in-Part.ensures in
+    listing_again c.loop-next.invariant c.in_ok-next.next c.in_ok-next.after.now c.in_ok-x-in-Part.more.now c.in_ok-x-in-Part.x _ (c.loop-next.n + 1) (a_generator c.in_ok-x-in-Part.x ∷ [])
+    c.in-Part.is c.in_ok-next.ensures (sym c.in_ok-x-in-Part.ensures) c.store.ensures (λ ys. map_push a_generator ys c.in_ok-x-in-Part.x) (omega (arith, m)) m

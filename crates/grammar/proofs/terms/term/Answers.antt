@@ -23,11 +23,11 @@ module _ (bs inner a after : List ℕ) (at : ℕ) (old mid new : List Piece)
 
 pub generators-requires : goal.generators-requires
 generators-requires c =
-    let o = expect_shrinks (codes "(") c.args.s.now c.in-ok-inner.inner.now c.in-ok-inner.ensures in
-    let f = coefficient_shrinks c.in-ok-inner.inner.now c.in-ok-c.c.now c.in-ok-c.after.now c.in-ok-c.ensures in
+    let o = expect_shrinks (codes "(") c.args.s.now c.in_ok-inner.inner.now c.in_ok-inner.ensures in
+    let f = coefficient_shrinks c.in_ok-inner.inner.now c.in_ok-c.c.now c.in_ok-c.after.now c.in_ok-c.ensures in
     omega (arith, o, f, c.requires, c.store.ensures.same_length)
 
 pub returns : goal.returns
 returns c =
-    whole c.args.s.now c.in-ok-inner.inner.now c.in-ok-c.c.now c.in-ok-c.after.now c.args.at _ _ _
-    c.in-ok-inner.ensures c.in-ok-c.ensures c.store.ensures _ c.generators.ensures
+    whole c.args.s.now c.in_ok-inner.inner.now c.in_ok-c.c.now c.in_ok-c.after.now c.args.at _ _ _
+    c.in_ok-inner.ensures c.in_ok-c.ensures c.store.ensures _ c.generators.ensures

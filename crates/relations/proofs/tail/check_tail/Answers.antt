@@ -7,19 +7,19 @@ use Rattle.relations.specs.Declare.{passed, last_at, check_term, check_tail, All
 use Rattle.relations.proofs.Checking.{tail_more, tail_all}
 use Rattle.relations.proofs.tail.check_tail.Goals as goal
 
-pub returns-in-err-check-term : goal.returns-in-err-check-term
-returns-in-err-check-term g c =
+pub returns-in_err-check_term : goal.returns-in_err-check_term
+returns-in_err-check_term g c =
     let m = g.R.Ring.model c.args.ring.now in
     let o = g.O.MonomialOrder.model c.args.order.now in
     let ts = c.args.tail.now in
     let k = c.loop-p.p in
     let rest = check_tail m o c.args.n c.args.j c.args.i (last_at ts (k + 1)) (k + 1 + 1) (drop (k + 1) ts) passed in
-    let p = err_from_is_err_and c.from-residual.result c.from-residual.ensures.1 in
+    let p = err_from_is_err_and c.from_residual.result c.from_residual.ensures.1 in
     rw (p.1, p.2)
     (record {
       full = tt;
       answer =
-          ap (λ r. then_do r (λ _. rest)) (c.in-err-check-term.ensures.answer ∙ ap (λ l. check_term m o c.args.n c.args.j c.args.i l (k + 1) (get_or ts k nil_term) passed) c.before-in-loop-p.ensures)
+          ap (λ r. then_do r (λ _. rest)) (c.in_err-check_term.ensures.answer ∙ ap (λ l. check_term m o c.args.n c.args.j c.args.i l (k + 1) (get_or ts k nil_term) passed) c.before-in-loop-p.ensures)
           ∙ sym (tail_more m o c.args.n c.args.j c.args.i ts k (omega arith)) ∙ c.loop-p.invariant.1;
     })
 
@@ -31,8 +31,8 @@ loop-p-preserved g c =
     let k = c.loop-p.p in
     let rest = check_tail m o c.args.n c.args.j c.args.i (last_at ts (k + 1)) (k + 1 + 1) (drop (k + 1) ts) passed in
     let more = drop_more ts k nil_term (omega arith) in (
-      λ h. c.loop-p.invariant.0 (subst AllFull (sym more) (c.in-ok-check-term.ensures.full, h)),
-      ap (λ r. then_do r (λ _. rest)) (c.in-ok-check-term.ensures.answer ∙ ap (λ l. check_term m o c.args.n c.args.j c.args.i l (k + 1) (get_or ts k nil_term) passed) c.before-in-loop-p.ensures)
+      λ h. c.loop-p.invariant.0 (subst AllFull (sym more) (c.in_ok-check_term.ensures.full, h)),
+      ap (λ r. then_do r (λ _. rest)) (c.in_ok-check_term.ensures.answer ∙ ap (λ l. check_term m o c.args.n c.args.j c.args.i l (k + 1) (get_or ts k nil_term) passed) c.before-in-loop-p.ensures)
           ∙ sym (tail_more m o c.args.n c.args.j c.args.i ts k (omega arith)) ∙ c.loop-p.invariant.1,
     )
 

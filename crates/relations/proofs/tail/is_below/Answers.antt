@@ -10,8 +10,8 @@ unfolding compare_terms
 returns-in-Less g c =
     sym (ap (λ l. below_last (g.O.MonomialOrder.model c.args.order.now) (option_map (λ x. x.now) l) c.args.t.now) c.in-Some.is ∙ ap is_less (sym c.in-Less.ensures))
 
-pub returns-in-default : goal.returns-in-default
+pub returns-in_default : goal.returns-in_default
 unfolding compare_terms
-returns-in-default g c =
+returns-in_default g c =
     sym (ap (λ l. below_last (g.O.MonomialOrder.model c.args.order.now) (option_map (λ x. x.now) l) c.args.t.now) c.in-Some.is
-    ∙ ap is_less (sym c.compare-rows.ensures) ∙ not_less c.compare-rows.result c.in-default.not-Less)
+    ∙ ap is_less (sym c.compare_rows.ensures) ∙ not_less c.compare_rows.result c.in_default.not-Less)

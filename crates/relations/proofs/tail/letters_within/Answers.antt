@@ -4,8 +4,8 @@ use Rattle.orders.proofs.Steps.{letters_stop, letters-go, letters-end}
 use Rattle.relations.specs.Declare.{letters_to}
 use Rattle.relations.proofs.tail.letters_within.Goals as goal
 
-pub returns-then-not-is-letter : goal.returns-then-not-is-letter
-returns-then-not-is-letter c =
+pub returns-then-not-is_letter : goal.returns-then-not-is_letter
+returns-then-not-is_letter c =
     let s = ap (letters_to c.args.n) (letters_stop c.args.row.now c.loop-x.x-index (omega arith) (cc)) in
     sym s ∙ c.loop-x.invariant
 

@@ -14,8 +14,8 @@ returns-in-Ok g c =
       value = e.value;
       meaning = λ valid t. decision-true m o mem a.count.n a.table valid a.verdict t (Ok c.in-Ok.v) e.value;
       verdict = refl;
-      ring-and-order = (refl, refl);
+      ring_and_order = (refl, refl);
       relations = (refl, refl);
-      blank-work = e.blank-work;
-      blank-out = e.blank-out;
+      blank_work = e.blank_work;
+      blank_out = e.blank_out;
     }

@@ -22,9 +22,9 @@ returns-in-Err g c =
     (triple_refused n i j k (i, j, k) (by_run (want (i, j, k))) _ (c.in-Err.ensures.value ∙ ap (λ q. check_triple q i j k (Ok (i, j, k))) c.value-n.ensures.value))
     c.refuse.ensures
 
-pub returns-in-err-answer : goal.returns-in-err-answer
+pub returns-in_err-answer-in-Ok : goal.returns-in_err-answer-in-Ok
 unfolding overlap_call
-returns-in-err-answer g c =
+returns-in_err-answer-in-Ok g c =
     let a = c.args.self.now in
     let m = g.R.Ring.model a.ring in
     let o = g.O.MonomialOrder.model a.order in
@@ -36,15 +36,15 @@ returns-in-err-answer g c =
     let want = λ (t : ℕ × ℕ × ℕ). overlap_run m o mem a.table t.0 t.1 t.2 in
     let got : ℕ × ℕ × ℕ = (c.in-Ok.x, c.in-Ok.y, c.in-Ok.z) in
     let t = triple_passes n i j k (i, j, k) (by_run (want (i, j, k))) got (c.in-Ok.ensures.value ∙ ap (λ q. check_triple q i j k (Ok (i, j, k))) c.value-n.ensures.value) in
-    let p = err_from_is_err_and c.from-residual.result c.from-residual.ensures.1 in
+    let p = err_from_is_err_and c.from_residual.result c.from_residual.ensures.1 in
     rw (p.1, p.2)
-    (answered c.run-overlap.new.work c.run-overlap.new.out (Err (Run c.in-err-answer.field-0.0))
+    (answered c.run_overlap.new.work c.run_overlap.new.out (Err (Run c.in_err-answer-in-Ok.field-0.0))
     (ap (λ u. by_run (want u)) (sym t.0) ∙ t.1)
-    (run-answered (want got) c.run-overlap.new.work c.run-overlap.new.out (Err c.in-err-answer.field-0.0) c.in-err-answer.ensures))
+    (run-answered (want got) c.run_overlap.new.work c.run_overlap.new.out (Err c.in_err-answer-in-Ok.field-0.0) c.in_err-answer-in-Ok.ensures))
 
-pub returns-in-ok-answer : goal.returns-in-ok-answer
+pub returns-in_ok-answer-in-Ok : goal.returns-in_ok-answer-in-Ok
 unfolding overlap_call
-returns-in-ok-answer g c =
+returns-in_ok-answer-in-Ok g c =
     let a = c.args.self.now in
     let m = g.R.Ring.model a.ring in
     let o = g.O.MonomialOrder.model a.order in
@@ -56,6 +56,6 @@ returns-in-ok-answer g c =
     let want = λ (t : ℕ × ℕ × ℕ). overlap_run m o mem a.table t.0 t.1 t.2 in
     let got : ℕ × ℕ × ℕ = (c.in-Ok.x, c.in-Ok.y, c.in-Ok.z) in
     let t = triple_passes n i j k (i, j, k) (by_run (want (i, j, k))) got (c.in-Ok.ensures.value ∙ ap (λ q. check_triple q i j k (Ok (i, j, k))) c.value-n.ensures.value) in
-    answered c.run-overlap.new.work c.run-overlap.new.out (Ok c.in-ok-answer.answer)
+    answered c.run_overlap.new.work c.run_overlap.new.out (Ok c.in_ok-answer-in-Ok.answer)
     (ap (λ u. by_run (want u)) (sym t.0) ∙ t.1)
-    (run-answered (want got) c.run-overlap.new.work c.run-overlap.new.out (Ok c.in-ok-answer.answer) c.in-ok-answer.ensures)
+    (run-answered (want got) c.run_overlap.new.work c.run_overlap.new.out (Ok c.in_ok-answer-in-Ok.answer) c.in_ok-answer-in-Ok.ensures)

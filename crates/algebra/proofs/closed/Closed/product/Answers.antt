@@ -23,9 +23,9 @@ returns-in-Err g c =
     let a' = answered c.refuse.new.work c.refuse.new.out c.refuse.result (refused checks (by_run ran) _ whole (sym c.in-Err.ensures)) c.refuse.ensures in
     record { answer = a'; meaning = λ valid. product-formed m o (record { work = length c.args.work.now; result = length c.args.out.now }) n a.table valid a.verdict c.refuse.new.work c.refuse.new.out c.refuse.result c.args.first.now c.args.second.now a' }
 
-pub returns-in-err-answer : goal.returns-in-err-answer
+pub returns-in_err-answer-in-Ok : goal.returns-in_err-answer-in-Ok
 unfolding whole-call
-returns-in-err-answer g c =
+returns-in_err-answer-in-Ok g c =
     let a = c.args.self.now in
     let m = g.R.Ring.model a.ring in
     let o = g.O.MonomialOrder.model a.order in
@@ -33,12 +33,12 @@ returns-in-err-answer g c =
     let ran = calculate m o a.table (record { work = length c.args.work.now; result = length c.args.out.now }) (product_entries m 1 c.args.first.now c.args.second.now) in
     let checks = when_sound a.verdict (scan_first m n 1 c.args.first.now (scan_second m n 1 c.args.second.now passed)) in
     let whole = two_through m n a.verdict c.args.first.now c.args.second.now (by_run ran) in
-    let p = err_from_is_err_and c.from-residual.result c.from-residual.ensures.1 in
-    record { answer = rw (p.1, p.2) (answered c.product.new.work c.product.new.out (Err (Run c.in-err-answer.field-0.0)) (allowed checks (by_run ran) _ whole (sym c.in-Ok.ensures)) (run-answered ran c.product.new.work c.product.new.out (Err c.in-err-answer.field-0.0) c.in-err-answer.ensures)); meaning = λ valid. refused-formed m n a.table (times (sum_of m c.args.first.now) (sum_of m c.args.second.now)) c.product.new.out c.from-residual.result p.0 p.1 }
+    let p = err_from_is_err_and c.from_residual.result c.from_residual.ensures.1 in
+    record { answer = rw (p.1, p.2) (answered c.product.new.work c.product.new.out (Err (Run c.in_err-answer-in-Ok.field-0.0)) (allowed checks (by_run ran) _ whole (sym c.in-Ok.ensures)) (run-answered ran c.product.new.work c.product.new.out (Err c.in_err-answer-in-Ok.field-0.0) c.in_err-answer-in-Ok.ensures)); meaning = λ valid. refused-formed m n a.table (times (sum_of m c.args.first.now) (sum_of m c.args.second.now)) c.product.new.out c.from_residual.result p.0 p.1 }
 
-pub returns-in-ok-answer : goal.returns-in-ok-answer
+pub returns-in_ok-answer-in-Ok : goal.returns-in_ok-answer-in-Ok
 unfolding whole-call
-returns-in-ok-answer g c =
+returns-in_ok-answer-in-Ok g c =
     let a = c.args.self.now in
     let m = g.R.Ring.model a.ring in
     let o = g.O.MonomialOrder.model a.order in
@@ -46,5 +46,5 @@ returns-in-ok-answer g c =
     let ran = calculate m o a.table (record { work = length c.args.work.now; result = length c.args.out.now }) (product_entries m 1 c.args.first.now c.args.second.now) in
     let checks = when_sound a.verdict (scan_first m n 1 c.args.first.now (scan_second m n 1 c.args.second.now passed)) in
     let whole = two_through m n a.verdict c.args.first.now c.args.second.now (by_run ran) in
-    let a' = answered c.product.new.work c.product.new.out (Ok c.in-ok-answer.answer) (allowed checks (by_run ran) _ whole (sym c.in-Ok.ensures)) (run-answered ran c.product.new.work c.product.new.out (Ok c.in-ok-answer.answer) c.in-ok-answer.ensures) in
-    record { answer = a'; meaning = λ valid. product-formed m o (record { work = length c.args.work.now; result = length c.args.out.now }) n a.table valid a.verdict c.product.new.work c.product.new.out (Ok c.in-ok-answer.answer) c.args.first.now c.args.second.now a' }
+    let a' = answered c.product.new.work c.product.new.out (Ok c.in_ok-answer-in-Ok.answer) (allowed checks (by_run ran) _ whole (sym c.in-Ok.ensures)) (run-answered ran c.product.new.work c.product.new.out (Ok c.in_ok-answer-in-Ok.answer) c.in_ok-answer-in-Ok.ensures) in
+    record { answer = a'; meaning = λ valid. product-formed m o (record { work = length c.args.work.now; result = length c.args.out.now }) n a.table valid a.verdict c.product.new.work c.product.new.out (Ok c.in_ok-answer-in-Ok.answer) c.args.first.now c.args.second.now a' }

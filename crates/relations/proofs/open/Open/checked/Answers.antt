@@ -5,62 +5,62 @@ use Rattle.relations.specs.Declare.{passed, check_tail}
 use Rattle.relations.proofs.Checking.{pair_gives, pair_refuses, factor_refuses, size_refuses, tail-decides}
 use Rattle.relations.proofs.open.Open.checked.Goals as goal
 
-pub returns-in-err-place : goal.returns-in-err-place
-returns-in-err-place g c =
+pub returns-in_err-place : goal.returns-in_err-place
+returns-in_err-place g c =
     let s = c.args.self.now in
     let q = s.presentation in
-    let p = err_from_is_err_and c.from-residual.result c.from-residual.ensures.1 in
+    let p = err_from_is_err_and c.from_residual.result c.from_residual.ensures.1 in
     rw (p.1, p.2)
     (pair_refuses (g.R.Ring.model s.ring) (g.O.MonomialOrder.model s.order) q.count.n q.declared c.args.j c.args.i c.args.factor c.args.tail.now
-    (pair_place c.args.j c.args.i) _ c.in-err-place.ensures.answer)
+    (pair_place c.args.j c.args.i) _ c.in_err-place.ensures.answer)
 
-pub returns-in-err-check-factor : goal.returns-in-err-check-factor
-returns-in-err-check-factor g c =
+pub returns-in_err-check_factor : goal.returns-in_err-check_factor
+returns-in_err-check_factor g c =
     let s = c.args.self.now in
     let q = s.presentation in
-    let p = err_from_is_err_and c.from-residual-in-err-check-factor.result c.from-residual-in-err-check-factor.ensures.1 in
+    let p = err_from_is_err_and c.from_residual-in_err-check_factor.result c.from_residual-in_err-check_factor.ensures.1 in
     rw (p.1, p.2)
     (factor_refuses (g.R.Ring.model s.ring) (g.O.MonomialOrder.model s.order) q.count.n q.declared c.args.j c.args.i c.args.factor c.args.tail.now
-    (pair_place c.args.j c.args.i) _ _ c.in-ok-place.ensures.answer c.in-err-check-factor.ensures)
+    (pair_place c.args.j c.args.i) _ _ c.in_ok-place.ensures.answer c.in_err-check_factor.ensures)
 
-pub returns-in-err-relation : goal.returns-in-err-relation
-returns-in-err-relation g c =
+pub returns-in_err-relation : goal.returns-in_err-relation
+returns-in_err-relation g c =
     let s = c.args.self.now in
     let q = s.presentation in
-    let p = err_from_is_err_and c.from-residual-in-err-relation.result c.from-residual-in-err-relation.ensures.1 in
-    let h = c.in-err-relation.ensures in
+    let p = err_from_is_err_and c.from_residual-in_err-relation.result c.from_residual-in_err-relation.ensures.1 in
+    let h = c.in_err-relation.ensures in
     rw (p.1, p.2, h.1)
     (size_refuses (g.R.Ring.model s.ring) (g.O.MonomialOrder.model s.order) q.count.n q.declared c.args.j c.args.i c.args.factor c.args.tail.now
-    (pair_place c.args.j c.args.i) _ c.in-ok-place.ensures.answer c.in-ok-check-factor.ensures h.0)
+    (pair_place c.args.j c.args.i) _ c.in_ok-place.ensures.answer c.in_ok-check_factor.ensures h.0)
 
-pub returns-in-err-check-tail : goal.returns-in-err-check-tail
-returns-in-err-check-tail g c =
+pub returns-in_err-check_tail : goal.returns-in_err-check_tail
+returns-in_err-check_tail g c =
     let s = c.args.self.now in
     let q = s.presentation in
-    let p = err_from_is_err_and c.from-residual-in-err-check-tail.result c.from-residual-in-err-check-tail.ensures.1 in
-    let t = c.in-err-check-tail.ensures.answer in
-    let r = c.in-ok-relation.ensures in
+    let p = err_from_is_err_and c.from_residual-in_err-check_tail.result c.from_residual-in_err-check_tail.ensures.1 in
+    let t = c.in_err-check_tail.ensures.answer in
+    let r = c.in_ok-relation.ensures in
     rw (p.1, p.2)
     (tail-decides (g.R.Ring.model s.ring) (g.O.MonomialOrder.model s.order) q.count.n q.declared c.args.j c.args.i c.args.factor c.args.tail.now
-    (pair_place c.args.j c.args.i) _ c.in-ok-place.ensures.answer c.in-ok-check-factor.ensures r.0
+    (pair_place c.args.j c.args.i) _ c.in_ok-place.ensures.answer c.in_ok-check_factor.ensures r.0
     ∙ sym (t ∙ ap (λ k. check_tail (g.R.Ring.model s.ring) (g.O.MonomialOrder.model s.order) k c.args.j c.args.i None 1 c.args.tail.now passed) c.value.ensures.value))
 
 pub returns : goal.returns
 returns g c =
     let s = c.args.self.now in
     let q = s.presentation in
-    let r = c.in-ok-relation.ensures in
-    let a = c.in-ok-place.ensures in
+    let r = c.in_ok-relation.ensures in
+    let a = c.in_ok-place.ensures in
     let pair = a.pair in
-    let t = c.in-ok-check-tail.ensures.answer in
+    let t = c.in_ok-check_tail.ensures.answer in
     let range = q.count.range in
     let place = pair_gives q.count.n q.declared c.args.j c.args.i _ (pair_place c.args.j c.args.i) a.answer in
     record {
       answer = tail-decides (g.R.Ring.model s.ring) (g.O.MonomialOrder.model s.order) q.count.n q.declared c.args.j c.args.i c.args.factor c.args.tail.now
-          (pair_place c.args.j c.args.i) _ a.answer c.in-ok-check-factor.ensures r.0
+          (pair_place c.args.j c.args.i) _ a.answer c.in_ok-check_factor.ensures r.0
           ∙ sym (t ∙ ap (λ k. check_tail (g.R.Ring.model s.ring) (g.O.MonomialOrder.model s.order) k c.args.j c.args.i None 1 c.args.tail.now passed) c.value.ensures.value);
       place = place;
       within = omega arith;
       says = r.1;
-      full = c.in-ok-check-tail.ensures.full;
+      full = c.in_ok-check_tail.ensures.full;
     }

@@ -6,9 +6,9 @@ use Rattle.relations.proofs.open.Open.declare.Goals as goal
 pub returns : goal.returns
 returns g c =
     let q = c.args.self.now.presentation in
-    let p = c.in-ok-place.place in
-    let x = c.in-ok-place.relation in
-    let a = c.in-ok-place.ensures in
+    let p = c.in_ok-place.place in
+    let x = c.in_ok-place.relation in
+    let a = c.in_ok-place.ensures in
     let d : Declares c.args.j c.args.i c.args.factor c.args.tail.now q.table q.declared (set q.table p x) (set q.declared p true) = record {
       relation = x;
       says = a.says;
