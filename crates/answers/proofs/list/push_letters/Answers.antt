@@ -5,14 +5,14 @@ use Rattle.answers.specs.Text.{letters_bytes}
 use Rattle.answers.proofs.Appending.{letters-more, letters-end}
 use Rattle.answers.proofs.list.push_letters.Goals as goal
 
-pub returns-then-not-is-letter : goal.returns-then-not-is-letter
-returns-then-not-is-letter c =
-    let d = ap letters_bytes (letters-end c.args.row.now c.loop-x.x-index (omega arith) (sym c.if-not-is-letter.ensures)) in
+pub returns-then-not-is_letter : goal.returns-then-not-is_letter
+returns-then-not-is_letter c =
+    let d = ap letters_bytes (letters-end c.args.row.now c.loop-x.x-index (omega arith) (sym c.if-not-is_letter.ensures)) in
     search (rules, append-nil)
 
 pub loop-x-preserved : goal.loop-x-preserved
 loop-x-preserved c =
-    let d = ap letters_bytes (letters-more c.args.row.now c.loop-x.x-index (omega arith) (sym c.if-not-is-letter.ensures)) in
+    let d = ap letters_bytes (letters-more c.args.row.now c.loop-x.x-index (omega arith) (sym c.if-not-is_letter.ensures)) in
     search (rules, append_assoc)
 
 pub returns : goal.returns

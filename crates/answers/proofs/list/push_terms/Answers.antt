@@ -5,8 +5,8 @@ use Rattle.kept.specs.Terms.{nil_term}
 use Rattle.answers.specs.Text.{terms_bytes}
 use Rattle.answers.proofs.list.push_terms.Goals as goal
 
-pub returns-in-err-push-term : goal.returns-in-err-push-term
-returns-in-err-push-term g c = IfOk-from_err c.from-residual-in-err-push-term.result _ c.from-residual-in-err-push-term.ensures.0
+pub returns-in_err-push_term : goal.returns-in_err-push_term
+returns-in_err-push_term g c = IfOk-from_err c.from_residual-in_err-push_term.result _ c.from_residual-in_err-push_term.ensures.0
 
 pub loop-term-preserved : goal.loop-term-preserved
 loop-term-preserved g c =

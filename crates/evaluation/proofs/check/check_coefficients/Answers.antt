@@ -4,13 +4,13 @@ use Rattle.evaluation.specs.Coefficients.{and_then}
 use Rattle.evaluation.proofs.Reading.{read_pieces, read_more, read_all, expression_read, terms-read}
 use Rattle.evaluation.proofs.check.check_coefficients.Goals as goal
 
-pub returns-in-err-check-piece : goal.returns-in-err-check-piece
-returns-in-err-check-piece g c =
+pub returns-in_err-check_piece : goal.returns-in_err-check_piece
+returns-in_err-check_piece g c =
     let m = g.R.Ring.model c.args.ring.now in
     let ps = c.args.pieces.now in
     let k : ℕ = c.loop-piece.piece-index in
-    let p = err_from_is_err_and c.from-residual.result c.from-residual.ensures.1 in
-    let h = p.1 ∙ ap Err p.2 ∙ ap (λ r. and_then r (λ _. read_pieces m (drop (k + 1) ps))) c.in-err-check-piece.ensures ∙ sym (read_more m ps k _ (omega arith)) ∙ c.loop-piece.invariant in
+    let p = err_from_is_err_and c.from_residual.result c.from_residual.ensures.1 in
+    let h = p.1 ∙ ap Err p.2 ∙ ap (λ r. and_then r (λ _. read_pieces m (drop (k + 1) ps))) c.in_err-check_piece.ensures ∙ sym (read_more m ps k _ (omega arith)) ∙ c.loop-piece.invariant in
     record { answer = h; expression = expression_read m ps _ h; terms = terms-read m ps _ h }
 
 pub loop-piece-preserved : goal.loop-piece-preserved
@@ -18,7 +18,7 @@ loop-piece-preserved g c =
     let m = g.R.Ring.model c.args.ring.now in
     let ps = c.args.pieces.now in
     let k : ℕ = c.loop-piece.piece-index in
-    ap (λ r. and_then r (λ _. read_pieces m (drop (k + 1) ps))) c.in-ok-check-piece.ensures ∙ sym (read_more m ps k _ (omega arith)) ∙ c.loop-piece.invariant
+    ap (λ r. and_then r (λ _. read_pieces m (drop (k + 1) ps))) c.in_ok-check_piece.ensures ∙ sym (read_more m ps k _ (omega arith)) ∙ c.loop-piece.invariant
 
 pub returns : goal.returns
 returns g c =

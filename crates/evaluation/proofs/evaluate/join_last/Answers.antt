@@ -9,15 +9,15 @@ returns-then-n-lt2 g c =
     let s = setting g.R.Ring.model g.O.MonomialOrder.model (length c.args.work.now) c.args.algebra.now in
     join_short c.args.stack.now c.args.n s (length c.args.stack.now) c.args.operator c.requires (omega arith)
 
-pub returns-in-err-frame : goal.returns-in-err-frame
-returns-in-err-frame g c =
+pub returns-in_err-frame : goal.returns-in_err-frame
+returns-in_err-frame g c =
     let s = setting g.R.Ring.model g.O.MonomialOrder.model (length c.args.work.now) c.args.algebra.now in
-    let p = err_from_is_err_and c.from-residual.result c.from-residual.ensures.1 in
-    rw (p.1, p.2) (join_refused c.args.stack.now c.args.n s (length c.args.stack.now) c.args.operator c.index-stack-n.result c.index-stack-n-2.result (omega arith) c.requires c.index-stack-n.is c.index-stack-n-2.is _ c.in-err-frame.ensures)
+    let p = err_from_is_err_and c.from_residual.result c.from_residual.ensures.1 in
+    rw (p.1, p.2) (join_refused c.args.stack.now c.args.n s (length c.args.stack.now) c.args.operator c.index-stack-n.result c.index-stack-n-2.result (omega arith) c.requires c.index-stack-n.is c.index-stack-n-2.is _ c.in_err-frame.ensures)
 
 pub returns : goal.returns
 returns g c =
     let s = setting g.R.Ring.model g.O.MonomialOrder.model (length c.args.work.now) c.args.algebra.now in
-    let f = c.in-ok-frame.frame in
+    let f = c.in_ok-frame.frame in
     let l = length-set c.args.stack.now (c.args.n - 2) f in
-    (omega arith, join_done c.args.stack.now c.args.n s (length c.args.stack.now) c.args.operator c.index-stack-n.result c.index-stack-n-2.result (omega arith) c.requires c.index-stack-n.is c.index-stack-n-2.is f c.in-ok-frame.ensures)
+    (omega arith, join_done c.args.stack.now c.args.n s (length c.args.stack.now) c.args.operator c.index-stack-n.result c.index-stack-n-2.result (omega arith) c.requires c.index-stack-n.is c.index-stack-n-2.is f c.in_ok-frame.ensures)

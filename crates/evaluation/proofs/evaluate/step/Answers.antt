@@ -11,9 +11,9 @@ returns-in-Generator g c =
     let s = setting g.R.Ring.model g.O.MonomialOrder.model (length c.args.work.now) c.args.algebra.now in
     let st = held c.args.n c.args.stack.now in
     let cap = length c.args.stack.now in
-    left_at c.push-value.new.stack c.push-value.result
-    (ap (λ r. pushed cap st r) c.generator_value.ensures ∙ ap (λ p. step s cap (shown p) st) (sym c.in-Generator.is))
-    c.push-value.ensures
+    left_at c.push_value.new.stack c.push_value.result
+    (ap (λ r. pushed cap st r) c.generator-value.ensures ∙ ap (λ p. step s cap (shown p) st) (sym c.in-Generator.is))
+    c.push_value.ensures
 
 pub returns-in-Coefficient : goal.returns-in-Coefficient
 unfolding step
@@ -21,6 +21,6 @@ returns-in-Coefficient g c =
     let s = setting g.R.Ring.model g.O.MonomialOrder.model (length c.args.work.now) c.args.algebra.now in
     let st = held c.args.n c.args.stack.now in
     let cap = length c.args.stack.now in
-    left_at c.push-value-in-Coefficient.new.stack c.push-value-in-Coefficient.result
-    (ap (λ r. pushed cap st r) c.coefficient_value.ensures ∙ ap (λ p. step s cap (shown p) st) (sym c.in-Coefficient.is))
-    c.push-value-in-Coefficient.ensures
+    left_at c.push_value-in-Coefficient.new.stack c.push_value-in-Coefficient.result
+    (ap (λ r. pushed cap st r) c.coefficient-value.ensures ∙ ap (λ p. step s cap (shown p) st) (sym c.in-Coefficient.is))
+    c.push_value-in-Coefficient.ensures

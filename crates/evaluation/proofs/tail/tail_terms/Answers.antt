@@ -6,4 +6,4 @@ use Rattle.evaluation.proofs.tail.tail_terms.Goals as goal
 pub returns : goal.returns
 returns g c =
     let m = g.R.Ring.model c.args.ring.now in
-    record { answer = c.collect-terms.ensures; terms = λ ts is. made_at c.collect-terms.result (ap (tail_of m) is ∙ tail-made m ts) c.collect-terms.ensures }
+    record { answer = c.collect_terms.ensures; terms = λ ts is. made_at c.collect_terms.result (ap (tail_of m) is ∙ tail-made m ts) c.collect_terms.ensures }
