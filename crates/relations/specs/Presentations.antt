@@ -4,7 +4,7 @@ use Rattle.coefficients.specs.Coding.{Coding}
 use Rattle.orders.specs.Models.{OrderModel}
 use Rattle.words.specs.declared.term.Term.{Term}
 use Rattle.run.specs.declared.relation.Relation.{Relation}
-use Rattle.run.specs.Relations.{pair_place, tail_of}
+use Rattle.run.specs.Relations.{pair_place, tail_of, made_relation}
 use Rattle.relations.specs.Declare.{passed, declare_answer, AllFull}
 
 -- x_j x_i = c x_i x_j + tail
@@ -17,6 +17,22 @@ pub record Plain (c : ℕ) (table : List Relation) : Type 0 where
   pub relation : Relation
   pub says : Says relation c []
   pub table_is : table ≡ replicate 64 relation
+
+-- every pair has the factor one and no tail
+abbrev pub opened_table : Coding → List Relation
+opened_table m = replicate 64 (made_relation m.one [])
+
+-- no pair counts as declared
+abbrev pub undeclared : List Bool
+undeclared = replicate 64 false
+
+-- x_j x_i = c x_i x_j + tail now, and all else is as it was
+abbrev pub declared_table : List Relation → ℕ → ℕ → ℕ → List Term → List Relation
+declared_table table j i c tail = slice_set table (pair_place j i) (made_relation c tail)
+
+-- the pair j, i counts as declared
+abbrev pub with_pair : List Bool → ℕ → ℕ → List Bool
+with_pair declared j i = slice_set declared (pair_place j i) true
 
 -- no pair is declared: each has the factor one and no tail
 pub record Opened (m : Coding) (table : List Relation) (declared : List Bool) : Type 0 where

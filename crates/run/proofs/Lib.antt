@@ -5,3 +5,4 @@ pub mod Loading
 pub mod Stepping
 pub mod Running
 pub mod Calling
+pub mod Making

@@ -1,8 +1,8 @@
 // How an algebra is opened, and relations declared in it.
-ghost use Rattle.std.specs.Prelude.{◌≡◌, ◌<◌, ◌≤◌, false, length, replicate, IfOk, Ok, Err, MatchResult, OnErr, OnOk};
+ghost use Rattle.std.specs.Prelude.{◌≡◌, ◌<◌, ◌≤◌, false, [], length, replicate, IfOk, Ok, Err, MatchResult, OnErr, OnOk};
 ghost use Rattle.relations.specs.Declare.{passed, check_pair, check_factor, declare_answer};
-ghost use Rattle.relations.specs.Presentations.{Says, Plain, Opened, Accepted, Declares};
-ghost use Rattle.run.specs.Relations.{pair_place};
+ghost use Rattle.relations.specs.Presentations.{Says, Plain, Opened, Accepted, Declares, opened_table, declared_table};
+ghost use Rattle.run.specs.Relations.{pair_place, made_relation};
 ghost use Rattle.normal_forms.specs.Relations.{Valid};
 ghost use Rattle.theory.specs.Relations.{Pair};
 ghost use Rattle.relations.specs.declared.fault.DeclareCause.TheVariants.{TailSize};
@@ -25,7 +25,8 @@ fn refuse<T>(cause: DeclareCause) -> Result<T, DeclareFault>
 
 // A relation for each pair of letters, all with this factor and without a tail.
 fn plain_table(factor: u64) -> Table
-    ensures { Plain factor result }
+    ensures plain { Plain factor result }
+    ensures whole { result ≡ replicate 64 (made_relation factor []) }
 {
     let relation = Relation::new(factor, &[]).unwrap();
     [relation; 64]
@@ -34,7 +35,8 @@ fn plain_table(factor: u64) -> Table
 impl Presentation {
     // No pair is declared.
     fn plain(count: Count, one: u64) -> Presentation
-        ensures { (result.count ≡ count) × ((Plain one result.table) × (result.declared ≡ replicate 64 false)) }
+        ensures plain { (result.count ≡ count) × ((Plain one result.table) × (result.declared ≡ replicate 64 false)) }
+        ensures whole { result.table ≡ replicate 64 (made_relation one []) }
     {
         Presentation {
             count,
@@ -94,7 +96,8 @@ fn check_factor<R: Ring>(ring: &R, factor: u64) -> Result<(), DeclareFault>
 
 // A relation, where the tail has not too many terms.
 fn sized_relation(factor: u64, tail: &[Term]) -> Result<Relation, DeclareFault>
-    ensures { MatchResult result (λ x. (length tail.now ≤ 8) × Says x factor tail.now) (λ e. (8 < length tail.now) × (e ≡ record { cause = TailSize; term = 0 })) }
+    ensures says { MatchResult result (λ x. (length tail.now ≤ 8) × Says x factor tail.now) (λ e. (8 < length tail.now) × (e ≡ record { cause = TailSize; term = 0 })) }
+    ensures whole { IfOk result (λ x. x ≡ made_relation factor tail.now) }
 {
     match Relation::new(factor, tail) {
         Some(relation) => Ok(relation),
@@ -108,6 +111,7 @@ impl<R: Ring, O: MonomialOrder> Open<R, O> {
         ensures same { (result.ring ≡ ring) × ((result.order ≡ order) × (result.presentation.count ≡ count)) }
         ensures valid { Valid (R.Ring.model result.ring) (O.MonomialOrder.model result.order) result.presentation.count.n result.presentation.table }
         ensures opened { Opened (R.Ring.model ring) result.presentation.table result.presentation.declared }
+        ensures table { result.presentation.table ≡ opened_table (R.Ring.model ring) }
     {
         let presentation = Presentation::plain(count, ring.one());
         Open {
@@ -125,7 +129,8 @@ impl<R: Ring, O: MonomialOrder> Open<R, O> {
         factor: u64,
         tail: &[Term],
     ) -> Result<(usize, Relation), DeclareFault>
-        ensures { MatchResult result (λ x. Accepted (R.Ring.model self.now.ring) (O.MonomialOrder.model self.now.order) self.now.presentation.count.n self.now.presentation.declared j i factor tail.now x.0 x.1) (λ e. declare_answer (R.Ring.model self.now.ring) (O.MonomialOrder.model self.now.order) self.now.presentation.count.n self.now.presentation.declared j i factor tail.now ≡ Err e) }
+        ensures decided { MatchResult result (λ x. Accepted (R.Ring.model self.now.ring) (O.MonomialOrder.model self.now.order) self.now.presentation.count.n self.now.presentation.declared j i factor tail.now x.0 x.1) (λ e. declare_answer (R.Ring.model self.now.ring) (O.MonomialOrder.model self.now.order) self.now.presentation.count.n self.now.presentation.declared j i factor tail.now ≡ Err e) }
+        ensures whole { IfOk result (λ x. x.1 ≡ made_relation factor tail.now) }
     {
         let place = self.presentation.free_place(j, i)?;
         check_factor(&self.ring, factor)?;
@@ -151,6 +156,7 @@ impl<R: Ring, O: MonomialOrder> Open<R, O> {
     ) -> Result<(), DeclareFault>
         ensures answer { result ≡ declare_answer (R.Ring.model self.old.ring) (O.MonomialOrder.model self.old.order) self.old.presentation.count.n self.old.presentation.declared j i factor tail.now }
         ensures answered { OnOk result (Declares j i factor tail.now self.old.presentation.table self.old.presentation.declared self.new.presentation.table self.new.presentation.declared) }
+        ensures table { OnOk result (self.new.presentation.table ≡ declared_table self.old.presentation.table j i factor tail.now) }
         ensures refused { OnErr result ((self.new.presentation.table ≡ self.old.presentation.table) × (self.new.presentation.declared ≡ self.old.presentation.declared)) }
         ensures same { (self.new.ring ≡ self.old.ring) × ((self.new.order ≡ self.old.order) × (self.new.presentation.count ≡ self.old.presentation.count)) }
         ensures keeps { Valid (R.Ring.model self.old.ring) (O.MonomialOrder.model self.old.order) self.old.presentation.count.n self.old.presentation.table → Valid (R.Ring.model self.new.ring) (O.MonomialOrder.model self.new.order) self.new.presentation.count.n self.new.presentation.table }

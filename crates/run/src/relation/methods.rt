@@ -1,6 +1,6 @@
 // How relations are made, and what is asked of them.
-ghost use Rattle.std.specs.Prelude.{◌≡◌, ◌<◌, ◌≤◌, length, MatchOption};
-ghost use Rattle.run.specs.Relations.{relation_of, tail_of};
+ghost use Rattle.std.specs.Prelude.{◌≡◌, ◌<◌, ◌≤◌, length, IfSome, MatchOption};
+ghost use Rattle.run.specs.Relations.{relation_of, tail_of, made_relation};
 
 use crate::relation::{Relation, TAIL_TERMS, Table};
 use words::term::Term;
@@ -8,7 +8,8 @@ use words::term::Term;
 impl Relation {
     // None where the tail has too many terms.
     pub fn new(factor: u64, tail: &[Term]) -> Option<Relation>
-        ensures { MatchOption result (8 < length tail.now) (λ x. (x.factor ≡ factor) × (tail_of x ≡ tail.now)) }
+        ensures says { MatchOption result (8 < length tail.now) (λ x. (x.factor ≡ factor) × (tail_of x ≡ tail.now)) }
+        ensures whole { IfSome result (λ x. x ≡ made_relation factor tail.now) }
     {
         let count = tail.len();
         if count > TAIL_TERMS {

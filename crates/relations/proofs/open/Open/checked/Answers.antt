@@ -5,8 +5,8 @@ use Rattle.relations.specs.Declare.{passed, check_tail}
 use Rattle.relations.proofs.Checking.{pair_gives, pair_refuses, factor_refuses, size_refuses, tail-decides}
 use Rattle.relations.proofs.open.Open.checked.Goals as goal
 
-pub returns-in_err-place : goal.returns-in_err-place
-returns-in_err-place g c =
+pub returns-in_err-place-clause-decided : goal.returns-in_err-place-clause-decided
+returns-in_err-place-clause-decided g c =
     let s = c.args.self.now in
     let q = s.presentation in
     let p = err_from_is_err_and c.from_residual.result c.from_residual.ensures.1 in
@@ -14,8 +14,8 @@ returns-in_err-place g c =
     (pair_refuses (g.R.Ring.model s.ring) (g.O.MonomialOrder.model s.order) q.count.n q.declared c.args.j c.args.i c.args.factor c.args.tail.now
     (pair_place c.args.j c.args.i) _ c.in_err-place.ensures.answer)
 
-pub returns-in_err-check_factor : goal.returns-in_err-check_factor
-returns-in_err-check_factor g c =
+pub returns-in_err-check_factor-clause-decided : goal.returns-in_err-check_factor-clause-decided
+returns-in_err-check_factor-clause-decided g c =
     let s = c.args.self.now in
     let q = s.presentation in
     let p = err_from_is_err_and c.from_residual-in_err-check_factor.result c.from_residual-in_err-check_factor.ensures.1 in
@@ -23,33 +23,33 @@ returns-in_err-check_factor g c =
     (factor_refuses (g.R.Ring.model s.ring) (g.O.MonomialOrder.model s.order) q.count.n q.declared c.args.j c.args.i c.args.factor c.args.tail.now
     (pair_place c.args.j c.args.i) _ _ c.in_ok-place.ensures.answer c.in_err-check_factor.ensures)
 
-pub returns-in_err-relation : goal.returns-in_err-relation
-returns-in_err-relation g c =
+pub returns-in_err-relation-clause-decided : goal.returns-in_err-relation-clause-decided
+returns-in_err-relation-clause-decided g c =
     let s = c.args.self.now in
     let q = s.presentation in
     let p = err_from_is_err_and c.from_residual-in_err-relation.result c.from_residual-in_err-relation.ensures.1 in
-    let h = c.in_err-relation.ensures in
+    let h = c.in_err-relation.ensures.says in
     rw (p.1, p.2, h.1)
     (size_refuses (g.R.Ring.model s.ring) (g.O.MonomialOrder.model s.order) q.count.n q.declared c.args.j c.args.i c.args.factor c.args.tail.now
     (pair_place c.args.j c.args.i) _ c.in_ok-place.ensures.answer c.in_ok-check_factor.ensures h.0)
 
-pub returns-in_err-check_tail : goal.returns-in_err-check_tail
-returns-in_err-check_tail g c =
+pub returns-in_err-check_tail-clause-decided : goal.returns-in_err-check_tail-clause-decided
+returns-in_err-check_tail-clause-decided g c =
     let s = c.args.self.now in
     let q = s.presentation in
     let p = err_from_is_err_and c.from_residual-in_err-check_tail.result c.from_residual-in_err-check_tail.ensures.1 in
     let t = c.in_err-check_tail.ensures.answer in
-    let r = c.in_ok-relation.ensures in
+    let r = c.in_ok-relation.ensures.says in
     rw (p.1, p.2)
     (tail-decides (g.R.Ring.model s.ring) (g.O.MonomialOrder.model s.order) q.count.n q.declared c.args.j c.args.i c.args.factor c.args.tail.now
     (pair_place c.args.j c.args.i) _ c.in_ok-place.ensures.answer c.in_ok-check_factor.ensures r.0
     ∙ sym (t ∙ ap (λ k. check_tail (g.R.Ring.model s.ring) (g.O.MonomialOrder.model s.order) k c.args.j c.args.i None 1 c.args.tail.now passed) c.value.ensures.value))
 
-pub returns : goal.returns
-returns g c =
+pub returns-clause-decided : goal.returns-clause-decided
+returns-clause-decided g c =
     let s = c.args.self.now in
     let q = s.presentation in
-    let r = c.in_ok-relation.ensures in
+    let r = c.in_ok-relation.ensures.says in
     let a = c.in_ok-place.ensures in
     let pair = a.pair in
     let t = c.in_ok-check_tail.ensures.answer in

@@ -5,8 +5,8 @@ use Rattle.relations.proofs.open.methods.sized_relation.Goals as goal
 pub returns-in-Some : goal.returns-in-Some
 unfolding tail_of
 returns-in-Some c =
-    let h = c.in-Some.ensures in
+    let h = c.in-Some.ensures.says in
     let x = c.in-Some.relation in
     let few = x.few in
     let size = simp length-take at (ap length h.1) in
-    (omega arith, record { factor = h.0; tail = h.1 })
+    record { says = (omega arith, record { factor = h.0; tail = h.1 }); whole = c.in-Some.ensures.whole }
