@@ -5,7 +5,7 @@ use Rattle.evaluation.specs.Coefficients.{and_then}
 use Rattle.words.specs.declared.term.Term.{Term}
 use Rattle.run.specs.declared.relation.Relation.{Relation}
 use Rattle.relations.specs.Declare.{declare_answer}
-use Rattle.relations.specs.Presentations.{declared-table, with_pair}
+use Rattle.relations.specs.Presentations.{declared_table, with_pair}
 use Rattle.relations.specs.declared.fault.DeclareFault.{DeclareFault}
 use Rattle.choices.specs.declared.ring.AnyRing.{AnyRing}
 use Rattle.choices.specs.declared.order.AnyOrder.{AnyOrder}
@@ -84,7 +84,7 @@ module _ (k : AnyRing) (o : AnyOrder) (n : ℕ) (table : List Relation) (pairs :
   answer a tail = declare_answer (ring_model k) (order_model o) n pairs j i a tail
 
   abbrev after : ℕ → List Term → State
-  after a tail = declaring k o n (declared-table table j i a tail) (with_pair pairs j i)
+  after a tail = declaring k o n (declared_table table j i a tail) (with_pair pairs j i)
 
   pub not_read : (e : ScriptFault) → Err e ≡ read_first → declaration k o n table pairs j i c ts ≡ Err e
   not_read e p = unread tails Declare answer after factor others e p
@@ -108,6 +108,7 @@ pub same_state : (a b : Open AnyRing AnyOrder) → a.ring ≡ b.ring → a.order
 same_state a b p q r s t = λ u. declaring (p u) (q u) (r u).n (s u) (t u)
 
 pub next_state : (a b : Open AnyRing AnyOrder) (j i c : ℕ) (tail : List Term) → b.ring ≡ a.ring → b.order ≡ a.order → b.presentation.count ≡ a.presentation.count
+    → b.presentation.table ≡ declared_table a.presentation.table j i c tail
     → Declares j i c tail a.presentation.table a.presentation.declared b.presentation.table b.presentation.declared
-    → declaring a.ring a.order a.presentation.count.n (declared-table a.presentation.table j i c tail) (with_pair a.presentation.declared j i) ≡ state_of (stage.Open b)
-next_state a b j i c tail p q r d = λ u. declaring (sym p u) (sym q u) (sym r u).n (sym d.table_is u) (sym d.declared_is u)
+    → declaring a.ring a.order a.presentation.count.n (declared_table a.presentation.table j i c tail) (with_pair a.presentation.declared j i) ≡ state_of (stage.Open b)
+next_state a b j i c tail p q r t d = λ u. declaring (sym p u) (sym q u) (sym r u).n (sym t u) (sym d.declared_is u)

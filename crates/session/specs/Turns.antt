@@ -5,7 +5,7 @@ use Rattle.run.specs.declared.relation.Relation.{Relation}
 use Rattle.run.specs.Calls.{Memory}
 use Rattle.relations.specs.Counts.{is_count}
 use Rattle.relations.specs.Declare.{declare_answer}
-use Rattle.relations.specs.Presentations.{opened-table, none_declared, declared-table, with_pair}
+use Rattle.relations.specs.Presentations.{opened_table, undeclared, declared_table, with_pair}
 use Rattle.algebra.specs.declared.fault.DecideFault.{DecideFault}
 use Rattle.algebra.specs.declared.verdict.Verdict.{Verdict}
 use Rattle.algebra.specs.declared.verdict.Verdict.TheVariants.{Undecided}
@@ -63,7 +63,7 @@ order_from (degree ws) = wrapped fault.Weight (degree_from (padded ws))
 -- the count, then the modulus, then the weights
 abbrev pub opening : ℕ → RingForm → OrderChoice → Result State ScriptFault
 opening n r o =
-    cond (is_count n) (and_then (ring_from r) (λ k. and_then (order_from o) (λ p. Ok (declaring k p n (opened-table (ring_model k)) none_declared)))) (Err (fault.Count (record {})))
+    cond (is_count n) (and_then (ring_from r) (λ k. and_then (order_from o) (λ p. Ok (declaring k p n (opened_table (ring_model k)) undeclared)))) (Err (fault.Count (record {})))
 
 -- REL
 
@@ -71,7 +71,7 @@ opening n r o =
 abbrev pub declaration : AnyRing → AnyOrder → ℕ → List Relation → List Bool → ℕ → ℕ → List ℕ → List TermForm → Result State ScriptFault
 declaration k o n table pairs j i c ts =
     and_then (all_read (ring_model k) (c ∷ map (λ t. t.coefficient) ts)) (λ _. and_then (made_terms (ring_model k) ts) (λ tail. and_then (by_ring ((ring_model k).read c)) (λ a.
-    and_then (wrapped fault.Declare (declare_answer (ring_model k) (order_model o) n pairs j i a tail)) (λ _. Ok (declaring k o n (declared-table table j i a tail) (with_pair pairs j i))))))
+    and_then (wrapped fault.Declare (declare_answer (ring_model k) (order_model o) n pairs j i a tail)) (λ _. Ok (declaring k o n (declared_table table j i a tail) (with_pair pairs j i))))))
 
 -- DECIDE
 

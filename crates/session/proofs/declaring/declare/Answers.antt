@@ -15,38 +15,38 @@ read_by : (k l : AnyRing) (c : List ℕ) (ts : List TermForm) (r : Result ℕ Sc
     → r ≡ first_read (ring_model k) c (map (λ (t : TermForm). t.coefficient) ts) → r ≡ first_read (ring_model l) c (map (λ (t : TermForm). t.coefficient) ts)
 read_by k l c ts r e = subst (λ x. r ≡ first_read (ring_model x) c (map (λ (t : TermForm). t.coefficient) ts)) e
 
-pub returns-in-err-code : goal.returns-in-err-code
-returns-in-err-code c = λ ts h.
-    let p = err_from_is_err_and c.from-residual.result c.from-residual.ensures.1 in
+pub returns-in_err-code : goal.returns-in_err-code
+returns-in_err-code c = λ ts h.
+    let p = err_from_is_err_and c.from_residual.result c.from_residual.ensures.1 in
     let a = c.args.algebra.now in
-    let f = read_by c.ring.result.now a.ring c.args.factor.now ts (Err c.in-err-code.field-0.0) c.ring.ensures (c.in-err-code.ensures.terms ts h) in
-    rw (p.1, p.2) (not_read a.ring a.order a.presentation.count.n a.presentation.table a.presentation.declared c.args.j c.args.i c.args.factor.now ts c.in-err-code.field-0.0 f, refl)
+    let f = read_by c.ring.result.now a.ring c.args.factor.now ts (Err c.in_err-code.field-0.0) c.ring.ensures (c.in_err-code.ensures.terms ts h) in
+    rw (p.1, p.2) (not_read a.ring a.order a.presentation.count.n a.presentation.table a.presentation.declared c.args.j c.args.i c.args.factor.now ts c.in_err-code.field-0.0 f, refl)
 
-pub returns-in-err-tail : goal.returns-in-err-tail
-returns-in-err-tail c = λ ts h.
-    let p = err_from_is_err_and c.from-residual-in-err-tail.result c.from-residual-in-err-tail.ensures.1 in
+pub returns-in_err-tail : goal.returns-in_err-tail
+returns-in_err-tail c = λ ts h.
+    let p = err_from_is_err_and c.from_residual-in_err-tail.result c.from_residual-in_err-tail.ensures.1 in
     let a = c.args.algebra.now in
-    let f = read_by c.ring.result.now a.ring c.args.factor.now ts (Ok c.in-ok-code.code) c.ring.ensures (c.in-ok-code.ensures.terms ts h) in
-    let m = subst (λ x. Made (made_terms (ring_model x) ts) (Err c.in-err-tail.field-0.0)) c.ring-2.ensures (c.in-err-tail.ensures.terms ts h) in
-    rw (p.1, p.2) (tail_fails a.ring a.order a.presentation.count.n a.presentation.table a.presentation.declared c.args.j c.args.i c.args.factor.now ts c.in-ok-code.code c.in-err-tail.field-0.0 _ f m)
+    let f = read_by c.ring.result.now a.ring c.args.factor.now ts (Ok c.in_ok-code.code) c.ring.ensures (c.in_ok-code.ensures.terms ts h) in
+    let m = subst (λ x. Made (made_terms (ring_model x) ts) (Err c.in_err-tail.field-0.0)) c.ring-2.ensures (c.in_err-tail.ensures.terms ts h) in
+    rw (p.1, p.2) (tail_fails a.ring a.order a.presentation.count.n a.presentation.table a.presentation.declared c.args.j c.args.i c.args.factor.now ts c.in_ok-code.code c.in_err-tail.field-0.0 _ f m)
 
-pub returns-in-err-declare : goal.returns-in-err-declare
-returns-in-err-declare c = λ ts h.
-    let p = err_from_is_err_and c.from-residual-in-err-declare.result c.from-residual-in-err-declare.ensures.1 in
+pub returns-in_err-declare : goal.returns-in_err-declare
+returns-in_err-declare c = λ ts h.
+    let p = err_from_is_err_and c.from_residual-in_err-declare.result c.from_residual-in_err-declare.ensures.1 in
     let a = c.args.algebra.now in
-    let f = read_by c.ring.result.now a.ring c.args.factor.now ts (Ok c.in-ok-code.code) c.ring.ensures (c.in-ok-code.ensures.terms ts h) in
-    let m = subst (λ x. made_terms (ring_model x) ts ≡ Ok (vec_items c.in-ok-tail.tail)) c.ring-2.ensures (c.in-ok-tail.ensures.terms ts h) in
-    let s = c.in-err-declare.ensures in
+    let f = read_by c.ring.result.now a.ring c.args.factor.now ts (Ok c.in_ok-code.code) c.ring.ensures (c.in_ok-code.ensures.terms ts h) in
+    let m = subst (λ x. made_terms (ring_model x) ts ≡ Ok (vec_items c.in_ok-tail.tail)) c.ring-2.ensures (c.in_ok-tail.ensures.terms ts h) in
+    let s = c.in_err-declare.ensures in
     rw (p.1, p.2) (
-      not_declared a.ring a.order a.presentation.count.n a.presentation.table a.presentation.declared c.args.j c.args.i c.args.factor.now ts c.in-ok-code.code c.as-slice.result.now c.in-err-declare.field-0.0 f (m ∙ ap Ok (sym c.as-slice.ensures.value)) s.answer,
+      not_declared a.ring a.order a.presentation.count.n a.presentation.table a.presentation.declared c.args.j c.args.i c.args.factor.now ts c.in_ok-code.code c.as_slice.result.now c.in_err-declare.field-0.0 f (m ∙ ap Ok (sym c.as_slice.ensures.value)) s.answer,
       same_state c.declare.new.self a s.same.0 s.same.1.0 s.same.1.1 s.refused.0 s.refused.1,
     )
 
 pub returns : goal.returns
 returns c = λ ts h.
     let a = c.args.algebra.now in
-    let f = read_by c.ring.result.now a.ring c.args.factor.now ts (Ok c.in-ok-code.code) c.ring.ensures (c.in-ok-code.ensures.terms ts h) in
-    let m = subst (λ x. made_terms (ring_model x) ts ≡ Ok (vec_items c.in-ok-tail.tail)) c.ring-2.ensures (c.in-ok-tail.ensures.terms ts h) in
-    let s = c.in-ok-declare.ensures in
-    is_declared a.ring a.order a.presentation.count.n a.presentation.table a.presentation.declared c.args.j c.args.i c.args.factor.now ts c.in-ok-code.code c.as-slice.result.now f (m ∙ ap Ok (sym c.as-slice.ensures.value)) s.answer
-    ∙ ap Ok (next_state a c.declare.new.self c.args.j c.args.i c.in-ok-code.code c.as-slice.result.now s.same.0 s.same.1.0 s.same.1.1 s.answered)
+    let f = read_by c.ring.result.now a.ring c.args.factor.now ts (Ok c.in_ok-code.code) c.ring.ensures (c.in_ok-code.ensures.terms ts h) in
+    let m = subst (λ x. made_terms (ring_model x) ts ≡ Ok (vec_items c.in_ok-tail.tail)) c.ring-2.ensures (c.in_ok-tail.ensures.terms ts h) in
+    let s = c.in_ok-declare.ensures in
+    is_declared a.ring a.order a.presentation.count.n a.presentation.table a.presentation.declared c.args.j c.args.i c.args.factor.now ts c.in_ok-code.code c.as_slice.result.now f (m ∙ ap Ok (sym c.as_slice.ensures.value)) s.answer
+    ∙ ap Ok (next_state a c.declare.new.self c.args.j c.args.i c.in_ok-code.code c.as_slice.result.now s.same.0 s.same.1.0 s.same.1.1 s.table s.answered)

@@ -5,6 +5,6 @@ use Rattle.grammar.specs.Forms.{order_choice}
 use Rattle.session.specs.Turns.{wrapped, order_from}
 use Rattle.session.proofs.opening.chosen_order.Goals as goal
 
-pub returns-in-ok-order : goal.returns-in-ok-order
-returns-in-ok-order c =
-    ap (wrapped fault.Weight) (c.in-ok-order.ensures.value ∙ ap degree_from c.eight.ensures) ∙ sym (ap (λ f. order_from (order_choice f)) c.in-Degree.is)
+pub returns-in_ok-order-in-Degree : goal.returns-in_ok-order-in-Degree
+returns-in_ok-order-in-Degree c =
+    ap (wrapped fault.Weight) (c.in_ok-order-in-Degree.ensures.value ∙ ap degree_from c.eight.ensures) ∙ sym (ap (λ f. order_from (order_choice f)) c.in-Degree.is)

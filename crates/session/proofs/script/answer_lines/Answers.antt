@@ -8,20 +8,20 @@ use Rattle.session.proofs.script.answer_lines.Goals as goal
 pub loop-rest-smaller : goal.loop-rest-smaller
 loop-rest-smaller c =
     let some = false-eqb (length c.loop-rest.rest.now) 0 c.loop-rest-test.ensures in
-    omega (arith, some, ap length c.past-line-rest.ensures, length-drop (c.line-end-n.result + 1) c.loop-rest.rest.now)
+    omega (arith, some, ap length c.past_line-rest.ensures, length-drop (c.line_end-n.result + 1) c.loop-rest.rest.now)
 
 pub loop-rest-preserved : goal.loop-rest-preserved
 loop-rest-preserved c =
     let some = false-eqb (length c.loop-rest.rest.now) 0 c.loop-rest-test.ensures in
-    let n = c.line-end-n.result in
+    let n = c.line_end-n.result in
     let s = state_of c.loop-rest.session.stage in
     let z : n - 0 ≡ n = omega arith in
-    let b = subst (λ k. vec_items c.answer.new.out ≡ vec_items c.loop-rest.out ++ (answer_bytes c.loop-rest.number (line_turn s (take k c.loop-rest.rest.now)).answer ++ (10 ∷ []))) z c.in-ok-answer.ensures.bytes in
-    let t = subst (λ k. state_of c.answer.new.self.stage ≡ (line_turn s (take k c.loop-rest.rest.now)).after) z c.in-ok-answer.ensures.state in (
-      ap (λ l. vec_items c.answer.new.out ++ answers (c.loop-rest.number + 1) (state_of c.answer.new.self.stage) (lines l)) c.past-line-rest.ensures
-          ∙ one_more c.loop-rest.rest.now (vec_items c.loop-rest.out) (vec_items c.answer.new.out) n c.loop-rest.number s (state_of c.answer.new.self.stage) (omega (arith, some)) c.line-end-n.ensures.value b t
+    let b = subst (λ k. vec_items c.answer.new.out ≡ vec_items c.loop-rest.out ++ (answer_bytes c.loop-rest.number (line_turn s (take k c.loop-rest.rest.now)).answer ++ (10 ∷ []))) z c.in_ok-answer.ensures.bytes in
+    let t = subst (λ k. state_of c.answer.new.self.stage ≡ (line_turn s (take k c.loop-rest.rest.now)).after) z c.in_ok-answer.ensures.state in (
+      ap (λ l. vec_items c.answer.new.out ++ answers (c.loop-rest.number + 1) (state_of c.answer.new.self.stage) (lines l)) c.past_line-rest.ensures
+          ∙ one_more c.loop-rest.rest.now (vec_items c.loop-rest.out) (vec_items c.answer.new.out) n c.loop-rest.number s (state_of c.answer.new.self.stage) (omega (arith, some)) c.line_end-n.ensures.value b t
           ∙ c.loop-rest.invariant.0,
-      omega (arith, some, c.loop-rest.invariant.1, ap length c.past-line-rest.ensures, length-drop (n + 1) c.loop-rest.rest.now),
+      omega (arith, some, c.loop-rest.invariant.1, ap length c.past_line-rest.ensures, length-drop (n + 1) c.loop-rest.rest.now),
     )
 
 pub returns : goal.returns

@@ -9,11 +9,11 @@ made_by : {X Y : Type 0} (P Q : X → Type 0) → ((x : X) → P x → Q x) → 
 made_by P Q f (Ok x) h = f x h
 made_by P Q f (Err y) h = tt
 
-pub returns-then-input-gt-INPUT-BYTES : goal.returns-then-input-gt-INPUT-BYTES
-returns-then-input-gt-INPUT-BYTES c =
-    c.in-ok-push.ensures.items
-    ∙ ap (λ l. l ++ (10 ∷ [])) (c.in-ok-push-refused.ensures ∙ ap (λ l. l ++ answer_bytes 0 (refused (Form TooLong))) c.new-out.ensures.items)
-    ∙ sym (too_long c.args.input.now c.if-input-gt-INPUT-BYTES.true)
+pub returns-then-input-gt-INPUT_BYTES : goal.returns-then-input-gt-INPUT_BYTES
+returns-then-input-gt-INPUT_BYTES c =
+    c.in_ok-push.ensures.items
+    ∙ ap (λ l. l ++ (10 ∷ [])) (c.in_ok-push_refused.ensures ∙ ap (λ l. l ++ answer_bytes 0 (refused (Form TooLong))) c.new-out.ensures.items)
+    ∙ sym (too_long c.args.input.now c.if-input-gt-INPUT_BYTES.true)
 
 pub returns : goal.returns
-returns c = made_by _ _ (λ t h. h ∙ sym (not_too_long c.args.input.now c.if-input-gt-INPUT-BYTES.false)) c.answer-lines.result c.answer-lines.ensures
+returns c = made_by _ _ (λ t h. h ∙ sym (not_too_long c.args.input.now c.if-input-gt-INPUT_BYTES.false)) c.answer_lines.result c.answer_lines.ensures

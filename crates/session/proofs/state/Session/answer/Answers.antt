@@ -7,5 +7,5 @@ use Rattle.session.proofs.state.Session.answer.Goals as goal
 
 pub returns : goal.returns
 returns c =
-    let q = c.in-ok-push-turn.ensures _ _ c.line-turn-turned.ensures in
-    record { bytes = c.in-ok-push.ensures.items ∙ ap (λ l. l ++ (10 ∷ [])) q.1 ∙ append_assoc (vec_items c.args.out.now) (answer_bytes c.args.number (line_turn (state_of c.args.self.now.stage) c.args.line.now).answer) (10 ∷ []); state = sym q.0 }
+    let q = c.in_ok-push_turn.ensures _ _ c.line_turn-turned.ensures in
+    record { bytes = c.in_ok-push.ensures.items ∙ ap (λ l. l ++ (10 ∷ [])) q.1 ∙ append_assoc (vec_items c.args.out.now) (answer_bytes c.args.number (line_turn (state_of c.args.self.now.stage) c.args.line.now).answer) (10 ∷ []); state = sym q.0 }
