@@ -51,10 +51,10 @@ fn run(rt: &HostRuntime) -> anyhow::Result<()> {
     if args.next().is_some() {
         return Err(anyhow!("more than one argument: see calculator --help"));
     }
-    if first == "--help" {
+    if first.as_str() == "--help" {
         return print(rt, help::TEXT.as_bytes());
     }
-    if first == "--version" {
+    if first.as_str() == "--version" {
         return print(rt, VERSION.as_bytes());
     }
     answer(rt, Some(first))
