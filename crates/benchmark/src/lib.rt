@@ -1,4 +1,4 @@
-// The run behind C's calling convention, for the benchmark: integers, weighted degree with weights 1.
+// The run as the benchmark calls it: integers, weighted degree with weights 1. The crate benchmark_c gives it to C.
 #![tactic(auto)]
 
 use integers::integers::Integers;
@@ -75,8 +75,7 @@ fn repeated(
 }
 
 // Normalises a word with coefficient 1 so many times.
-#[unsafe(no_mangle)]
-pub extern "C" fn normalise_many(which: u32, letters: &[u8], times: u64) -> u64 {
+pub fn normalise_many(which: u32, letters: &[u8], times: u64) -> u64 {
     let Ok(one) = Weight::new(1) else {
         return 0;
     };
