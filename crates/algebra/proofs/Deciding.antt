@@ -13,7 +13,6 @@ use Rattle.run.specs.declared.relation.Relation.{Relation}
 use Rattle.run.specs.Step.{Outcome}
 use Rattle.run.specs.Calls.{Memory}
 use Rattle.algebra.specs.declared.fault.AlgebraFault.TheVariants.{Run}
-use Rattle.algebra.specs.declared.fault.DecideFault.{DecideFault}
 use Rattle.algebra.specs.declared.verdict.Verdict.{Verdict}
 use Rattle.algebra.specs.declared.verdict.Verdict.TheVariants.{Sound, Degenerate}
 use Rattle.algebra.specs.Overlaps.{overlap_entries, overlap_run}

@@ -1,8 +1,8 @@
 -- What each call loads stands for the list, the sum, the difference, the product or the overlap that it is of.
-use Rattle.std.proofs.Common.{◌≡◌, ℕ, ◌+◌, List, [], ◌∷◌, ◌++◌, sym, refl, ap, subst, inl, inr, append-nil, arith}
-use Rattle.theory.specs.FreeSum.{FreeSum, Term as FreeTerm, place, around, negate, times_term, times}
+use Rattle.std.proofs.Common.{ℕ, ◌+◌, List, [], ◌∷◌, ◌++◌, sym, refl, ap, subst, inl, inr, append-nil, arith}
+use Rattle.theory.specs.FreeSum.{place, around, negate, times_term, times}
 use Rattle.theory.specs.Words.{Over}
-use Rattle.theory.specs.Relations.{Relations, Pair, Triple, rhs, overlap}
+use Rattle.theory.specs.Relations.{Relations, Triple, rhs, overlap}
 use Rattle.theory.proofs.Relations.{pair_ji, pair_kj}
 use Rattle.theory.proofs.Words.{over_join}
 use Rattle.coefficients.specs.Coding.{Coding}

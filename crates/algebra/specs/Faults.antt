@@ -5,7 +5,6 @@ use Rattle.coefficients.specs.Faults.{ring_refusal}
 use Rattle.run.specs.Faults.{run_refusal}
 use Rattle.algebra.specs.declared.fault.CallCause.{CallCause}
 use Rattle.algebra.specs.declared.fault.CallCause.TheVariants.{Undecided, Degenerate, Generator, NotRising, Coefficient}
-use Rattle.algebra.specs.declared.fault.CallFault.{CallFault}
 use Rattle.algebra.specs.declared.fault.AlgebraFault.{AlgebraFault}
 use Rattle.algebra.specs.declared.fault.AlgebraFault.TheVariants.{Call, Run}
 

@@ -1,5 +1,5 @@
 -- Numerals, with or without a minus sign, are plain.
-use Rattle.std.proofs.Common.{ℕ, suc, ◌+◌, ◌%◌, ◌<◌, ◌≤◌, ◌≢◌, List, [], ◌∷◌, ◌++◌, ℤ, pos, negsuc, mod-lt, arith, lit≤}
+use Rattle.std.proofs.Common.{ℕ, suc, ◌+◌, ◌%◌, ◌<◌, ◌≤◌, List, [], ◌∷◌, ◌++◌, ℤ, pos, negsuc, arith, lit≤}
 use Rattle.coefficients.specs.Numerals.{numeral}
 use Rattle.coefficients.specs.NumeralLaws.{numeral_by_steps}
 use Rattle.integers.specs.Model.{integer, written}

@@ -1,7 +1,6 @@
 -- What was written is read back.
-use Rattle.std.proofs.Common.{◌≡◌, ℕ, ◌-◌, Bool, true, false, cond, List, ◌++◌, length, take, replicate, Ok, Err, Result, sym, refl, ap, ◌∙◌, ap₂, arith}
+use Rattle.std.proofs.Common.{◌≡◌, ℕ, ◌-◌, Bool, true, false, cond, List, length, take, replicate, Ok, Err, refl, ap, ◌∙◌, ap₂, arith}
 use Rattle.std.proofs.lemmas.List.{take_at}
-use Rattle.coefficients.specs.declared.fault.RingFault.{RingFault}
 use Rattle.coefficients.specs.declared.fault.RingFault.TheVariants.{NotInUse}
 use Rattle.coefficients.specs.Coding.{Coding, Answer, write_answer, filled}
 use Rattle.coefficients.specs.Numbering.{when_in_use}

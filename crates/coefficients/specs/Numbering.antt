@@ -1,6 +1,6 @@
 -- The coding of a ring whose elements have numbers: the codes are the numbers below a bound.
 use Rattle.std.specs.Prelude.{◌≡◌, ℕ, ◌^◌, ◌<◌, ◌≤◌, Bool, true, false, cond, ◌&&◌, List, Some, None, Ok, Err, Option, nat_lt, refl}
-use Rattle.std.proofs.Common.{sym, ap, subst, ◌∙◌, arith}
+use Rattle.std.proofs.Common.{sym, ap, ◌∙◌, arith}
 use Rattle.std.proofs.lemmas.Bool.{ltb-true, ltb-false, lt-ltb}
 use Rattle.theory.specs.Ring.{CommutativeRing}
 use Rattle.coefficients.specs.declared.fault.RingFault.TheVariants.{NotInUse, NoWriting, NoCode}

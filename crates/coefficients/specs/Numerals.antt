@@ -1,5 +1,5 @@
 -- Numbers written in a base from 2 to 10: the digits as text, the highest first, without a needless leading zero.
-use Rattle.std.specs.Prelude.{ℕ, zero, suc, ◌+◌, ◌-◌, ◌*◌, ◌^◌, Bool, true, false, cond, ◌&&◌, ◌||◌, List, [], ◌∷◌, map, length, Some, None, Option, ◌==◌, nat_le, nat_lt, slice_index}
+use Rattle.std.specs.Prelude.{ℕ, zero, suc, ◌+◌, ◌-◌, ◌*◌, ◌^◌, Bool, cond, ◌&&◌, ◌||◌, List, [], ◌∷◌, map, length, Some, None, Option, ◌==◌, nat_le, nat_lt, slice_index}
 use Rattle.std.specs.Int.Digits.{digits_of}
 use Rattle.coefficients.specs.declared.numeral.Base.{Base}
 use Rattle.coefficients.specs.declared.numeral.Base.TheVariants.{Binary, Decimal}

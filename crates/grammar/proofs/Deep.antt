@@ -1,5 +1,5 @@
 -- An expression is refused as too deep exactly where it begins like one of any depth, up to a bracket inside as many others as it may have.
-use Rattle.std.proofs.Common.{◌≡◌, ℕ, zero, suc, ◌+◌, ◌-◌, Bool, true, false, cond, eqb, ◌⊎◌, List, [], ◌∷◌, ◌++◌, length, Ok, Err, Result, sym, refl, ap, ◌∙◌, subst, inl, inr, ⊎_elim, append_assoc, arith}
+use Rattle.std.proofs.Common.{◌≡◌, ℕ, zero, suc, ◌+◌, Bool, true, false, cond, eqb, ◌⊎◌, List, [], ◌∷◌, ◌++◌, length, Ok, Err, Result, sym, refl, ap, ◌∙◌, subst, inl, inr, ⊎_elim, append_assoc, arith}
 use Rattle.std.proofs.lemmas.Bool.Decides.{nat_tests}
 use Rattle.grammar.specs.declared.fault.ReadFault.{ReadFault}
 use Rattle.grammar.specs.declared.fault.ReadFault.TheVariants.{Misfit, DeepBracket}
@@ -14,7 +14,7 @@ use Rattle.grammar.specs.Grammar.{Arity, Fine, FineAll}
 use Rattle.grammar.proofs.Nesting.{too_deep, inner_first, more-part}
 use Rattle.grammar.proofs.Leaves.{Shallow, misfit-shallow, ok-shallow, then-shallow, cond-shallow, atom_shallow, decimal_plain, none_generator}
 use Rattle.grammar.proofs.Writings.{next-shallow, next-written}
-use Rattle.grammar.proofs.Trees.{Few, few-before, arity_few, Begun, begun_or_deep, deep_at_once, opening, open_ways, operator_written, signed, goes_on, more, Sound, expr_sound}
+use Rattle.grammar.proofs.Trees.{Few, few-before, arity_few, Begun, begun_or_deep, deep_at_once, open_ways, operator_written, signed, goes_on, more, Sound, expr_sound}
 use Rattle.grammar.proofs.Levels.{At, at_closed, at_opened, space_level, sign_level, sign_level_back, count-append, level, level_all, split, behind, none_in}
 
 no_bracket : (o : Operator) → sign o ≡ 40 → ⊥

@@ -1,5 +1,5 @@
 -- Whole forms: exactly what is written is read.
-use Rattle.std.proofs.Common.{◌≡◌, ℕ, ◌+◌, ◌≤◌, ◌⊎◌, List, [], ◌∷◌, ◌++◌, map, length, Ok, Err, codes, decimal, sym, refl, ap, ◌∙◌, subst, inl, inr, ⊎_elim, append_assoc, arith}
+use Rattle.std.proofs.Common.{◌≡◌, ℕ, ◌≤◌, ◌⊎◌, List, [], ◌∷◌, ◌++◌, map, length, Ok, Err, codes, decimal, sym, refl, ap, ◌∙◌, subst, inl, inr, ⊎_elim, append_assoc, arith}
 use Rattle.grammar.specs.declared.fault.ReadFault.TheVariants.{DeepBracket}
 use Rattle.grammar.specs.declared.forms.RingForm.{RingForm}
 use Rattle.grammar.specs.Reading.{Reads, and_then, expect, read_number, read_spaced_number, read_coefficient}

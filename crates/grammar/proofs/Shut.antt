@@ -1,5 +1,5 @@
 -- In a form that is no expression, brackets nest at most two deep.
-use Rattle.std.proofs.Common.{◌≡◌, ℕ, suc, ◌+◌, ◌<◌, true, ◌⊎◌, List, [], ◌∷◌, ◌++◌, map, codes, decimal, refl, ap, subst, ⊎_elim, append_assoc, arith}
+use Rattle.std.proofs.Common.{◌≡◌, ℕ, suc, ◌+◌, ◌<◌, true, List, [], ◌∷◌, ◌++◌, map, codes, decimal, refl, ap, subst, ⊎_elim, append_assoc, arith}
 use Rattle.grammar.specs.declared.forms.RingForm.{RingForm}
 use Rattle.grammar.specs.declared.forms.RingForm.TheVariants.{Mod, Int, QPoly}
 use Rattle.grammar.specs.Forms.{OrderChoice, lex, degree, TermForm, algebra, rel, decide}

@@ -1,6 +1,6 @@
 -- What every history keeps: a valid table, a true verdict, and calculations whose terms are the normal form of their free sum.
-use Rattle.std.proofs.Common.{◌≡◌, ℕ, List, [], ◌∷◌, ◌++◌, Ok, Err, Result, sym, refl, ◌∙◌, subst, inl, inr}
-use Rattle.theory.specs.FreeSum.{FreeSum, ◌≈◌, negate, times}
+use Rattle.std.proofs.Common.{◌≡◌, ℕ, List, ◌∷◌, ◌++◌, Ok, Err, Result, sym, refl, ◌∙◌, subst, inl, inr}
+use Rattle.theory.specs.FreeSum.{FreeSum, negate, times}
 use Rattle.theory.specs.Words.{OverSum}
 use Rattle.theory.specs.Relations.{Relations, TailsOver}
 use Rattle.theory.specs.Congruence.{Congruent}

@@ -19,7 +19,7 @@ use Rattle.normal_forms.proofs.Consequences.{tell_apart}
 use Rattle.algebra.specs.Verdicts.{IsSound}
 use Rattle.algebra.proofs.Meaning.{tells_truth}
 use Rattle.histories.specs.State.{State, count, table_of, verdict, relations}
-use Rattle.histories.specs.History.{Calculation, History}
+use Rattle.histories.specs.History.{Calculation}
 use Rattle.histories.specs.Law.{Arrives, Faithful, HistoriesFaithful}
 use Rattle.histories.proofs.Keeping.{Kept, keeps, tails, resolves, calculated_congruent}
 

@@ -1,14 +1,14 @@
 -- An insertion keeps a kept list kept.
-use Rattle.std.proofs.Common.{◌≡◌, ℕ, Bool, true, false, cond, eqb, List, [], ◌∷◌, Ok, Err, Result, Ordering, Less, Equal, Greater, sym, refl, ap, ◌∙◌, subst, arith}
+use Rattle.std.proofs.Common.{◌≡◌, ℕ, Bool, true, false, cond, eqb, List, [], ◌∷◌, Ok, Err, Result, Ordering, Less, Equal, Greater, sym, refl, subst, arith}
 use Rattle.std.proofs.lemmas.Bool.{eqb-true, eqb-false}
 use Rattle.coefficients.specs.Coding.{Coding}
 use Rattle.coefficients.specs.declared.fault.RingFault.{RingFault}
 use Rattle.orders.specs.Models.{OrderModel}
 use Rattle.words.specs.declared.term.Term.{Term}
 use Rattle.kept.specs.declared.fault.KeptFault.{KeptFault}
-use Rattle.kept.specs.declared.fault.KeptFault.TheVariants.{Sum, Full}
-use Rattle.kept.specs.Kept.{Listed, compare_terms, by_order, fresh, merged, onto, placed, insert}
-use Rattle.kept.specs.Falling.{Above, Falls, NoneZero, IsKept}
+use Rattle.kept.specs.declared.fault.KeptFault.TheVariants.{Full}
+use Rattle.kept.specs.Kept.{compare_terms, by_order, fresh, merged, onto, placed, insert}
+use Rattle.kept.specs.Falling.{Above, Falls}
 use Rattle.kept.proofs.Ordered.{greater_of_less, greater_trans}
 
 pub full : (room : ℕ) (t : Term) (xs ys : List Term) → fresh room t xs ≡ Ok ys → ys ≡ t ∷ xs

@@ -1,5 +1,5 @@
 -- The laws of comparing terms, and places in a list whose words fall.
-use Rattle.std.proofs.Common.{◌≡◌, ℕ, zero, suc, ◌+◌, ◌-◌, ◌<◌, ◌≤◌, Bool, true, false, ◌⊎◌, List, [], ◌∷◌, length, get_or, Ordering, Less, Equal, Greater, sym, refl, ap, ◌∙◌, subst, inl, inr, arith}
+use Rattle.std.proofs.Common.{◌≡◌, ℕ, zero, suc, ◌-◌, ◌<◌, ◌≤◌, true, false, ◌⊎◌, List, [], ◌∷◌, length, get_or, Less, Equal, Greater, sym, refl, ap, ◌∙◌, subst, inl, inr, arith}
 use Rattle.orders.specs.Letters.{letters}
 use Rattle.orders.specs.Models.{OrderModel}
 use Rattle.orders.specs.Orders.{reversed}
@@ -7,7 +7,7 @@ use Rattle.words.specs.Compare.{compare_words}
 use Rattle.words.specs.declared.term.Term.{Term}
 use Rattle.words.proofs.Ranking.{words_ordered}
 use Rattle.kept.specs.Kept.{compare_terms, by_order, place, present}
-use Rattle.kept.specs.Falling.{Above, Falls}
+use Rattle.kept.specs.Falling.{Falls}
 
 module _ (o : OrderModel) where
   pub turned : (x y : Term) → compare_terms o y x ≡ reversed (compare_terms o x y)

@@ -1,9 +1,9 @@
 -- Lists of one length descend finitely, and so do images by their keys.
-use Rattle.std.proofs.Common.{◌≡◌, ℕ, zero, suc, ◌+◌, ◌<◌, ◌≤◌, ◌⊎◌, List, [], ◌∷◌, length, Less, Equal, Greater, sym, refl, ap, ◌∙◌, subst, ap₂, inl, inr, arith}
-use mathlib.Core.WellFounded.{Acc, WellFounded}
-use Rattle.orders.specs.Orders.{first_difference, numbers}
-use Rattle.orders.specs.Models.{OrderModel, IsImage, compare_images}
-use Rattle.orders.specs.Laws.{StrictOrder, Before, AddsUp, ImagesOrdered}
+use Rattle.std.proofs.Common.{◌≡◌, ℕ, zero, suc, ◌<◌, ◌⊎◌, List, [], ◌∷◌, length, Less, sym, refl, ap, ◌∙◌, subst, ap₂, inl, inr, arith}
+use mathlib.Core.WellFounded.{Acc}
+use Rattle.orders.specs.Orders.{first_difference}
+use Rattle.orders.specs.Models.{OrderModel}
+use Rattle.orders.specs.Laws.{Before, ImagesOrdered}
 use Rattle.orders.proofs.Comparing.{numbers_less, difference-same, difference-equal, difference-reversed, difference_less, difference-plus}
 
 -- a list before another of the same length

@@ -1,6 +1,6 @@
 -- The laws of comparisons: strict total orders, compatible with sums, without infinite descent.
 use Rattle.std.specs.Prelude.{◌≡◌, ℕ, List}
-use Rattle.std.specs.declared.cmp.Ordering.TheVariants.{Less, Equal, Greater}
+use Rattle.std.specs.declared.cmp.Ordering.TheVariants.{Less, Equal}
 use Rattle.std.specs.declared.cmp.Ordering.{Ordering}
 use mathlib.Core.WellFounded.{WellFounded}
 use Rattle.orders.specs.Orders.{reversed, plus}

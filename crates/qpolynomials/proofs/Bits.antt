@@ -1,5 +1,5 @@
 -- One bit more of the product.
-use Rattle.std.proofs.Common.{◌≡◌, ℕ, zero, suc, ◌*◌, ◌/◌, ◌%◌, sym, refl, ap, ◌∙◌, ap₂}
+use Rattle.std.proofs.Common.{◌≡◌, ℕ, ◌*◌, ◌/◌, ◌%◌, sym, ap, ◌∙◌}
 use lib.Bits.{bit_xor}
 use Rattle.qpolynomials.specs.Product.{scaled, times}
 use Rattle.qpolynomials.specs.Laws.{times-step, times_twice}

@@ -1,5 +1,5 @@
 -- The codes of polynomials: all numbers of 64 bits, that is degree up to 63; written in binary, the highest power first.
-use Rattle.std.specs.Prelude.{◌≡◌, ℕ, ◌+◌, ◌-◌, ◌*◌, ◌^◌, ◌<◌, ◌≤◌, Bool, true, false, cond, ◌&&◌, ltb, List, length, Some, Option, refl}
+use Rattle.std.specs.Prelude.{ℕ, ◌^◌, ◌<◌, refl}
 use Rattle.std.proofs.Common.{le_refl, arith, lit<, lit≤}
 use Rattle.coefficients.specs.Coding.{Coding, Writable}
 use Rattle.coefficients.specs.Numerals.{numeral, read_numeral}

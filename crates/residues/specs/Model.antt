@@ -1,6 +1,6 @@
 -- The codes of residues modulo m: the remainders themselves, written in decimal.
 use Rattle.std.specs.Prelude.{◌≡◌, ℕ, ◌^◌, ◌<◌, ◌≤◌, Bool, true, false, cond, List, Some, None, Option, nat_lt, refl}
-use Rattle.std.proofs.Common.{sym, ap, ◌∙◌, mod-eq_of_lt, arith, lit≤, lit<}
+use Rattle.std.proofs.Common.{ap, ◌∙◌, mod-eq_of_lt, arith, lit≤, lit<}
 use Rattle.std.proofs.Math.Nat.{zero-mod}
 use native.Mathlib.Fin
 use Rattle.std.proofs.lemmas.Bool.{ltb-true, lt-ltb}
@@ -8,7 +8,7 @@ use Rattle.coefficients.specs.Coding.{Coding, Writable}
 use Rattle.coefficients.specs.Numerals.{numeral, read_numeral}
 use Rattle.coefficients.specs.NumeralLaws.{numeral_some, numeral-length, numeral_nonzero, read_of_numeral, numeral_of_read}
 use Rattle.coefficients.specs.Numbering.{Numbering, coding_of}
-use Rattle.residues.specs.Ring.{Class, class, residue_ring}
+use Rattle.residues.specs.Ring.{class, residue_ring}
 
 -- a number that is below the bound
 abbrev pub below : ℕ → Option ℕ → Option ℕ

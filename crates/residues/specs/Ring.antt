@@ -1,5 +1,5 @@
 -- The ring of residues modulo m.
-use Rattle.std.specs.Prelude.{◌≡◌, ℕ, ◌+◌, ◌-◌, ◌*◌, ◌/◌, ◌%◌, ◌<◌, ◌≤◌, refl}
+use Rattle.std.specs.Prelude.{◌≡◌, ℕ, ◌+◌, ◌-◌, ◌*◌, ◌/◌, ◌%◌, ◌<◌, ◌≤◌}
 use Rattle.std.proofs.Common.{sym, ap, ◌∙◌, mod-lt, mod-eq_of_lt, div-add-mod', add_assoc, add_comm, add-zero, add-mul, mul-add, mul_assoc, mul_comm, mul-one, arith}
 use mathlib.Core.HLevel.{hedberg}
 use Rattle.std.proofs.Math.Nat.{mod_self, zero-mod, mod-add-mod, add-mod-mod, mul-add-mod_self_right}

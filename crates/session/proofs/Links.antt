@@ -1,5 +1,5 @@
 -- The links of a declaration: what each of its calls answers settles the rest.
-use Rattle.std.proofs.Common.{◌≡◌, ℕ, Bool, List, map, Ok, Err, Result, sym, refl, ap, ◌∙◌, subst, arith}
+use Rattle.std.proofs.Common.{◌≡◌, ℕ, Bool, List, map, Ok, Err, Result, sym, refl, ap, arith}
 use Rattle.answers.specs.declared.fault.ScriptFault.{ScriptFault}
 use Rattle.evaluation.specs.Coefficients.{and_then}
 use Rattle.words.specs.declared.term.Term.{Term}

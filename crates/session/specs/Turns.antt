@@ -1,5 +1,5 @@
 -- What a form does to a session: the state and the form together settle the answer and the state after it.
-use Rattle.std.specs.Prelude.{ℕ, Bool, cond, List, [], ◌∷◌, map, Ok, Err, Result}
+use Rattle.std.specs.Prelude.{ℕ, Bool, cond, List, ◌∷◌, map, Ok, Err, Result}
 use Rattle.words.specs.declared.term.Term.{Term}
 use Rattle.run.specs.declared.relation.Relation.{Relation}
 use Rattle.run.specs.Calls.{Memory}

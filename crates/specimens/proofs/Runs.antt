@@ -1,7 +1,6 @@
 -- The worked cases, by computing.
 use Rattle.std.proofs.Common.{refl}
 use Rattle.orders.specs.Letters.{image}
-use Rattle.coefficients.specs.Numerals.{numeral}
 use Rattle.qpolynomials.specs.Product.{scaled, times_bits, times}
 use Rattle.kept.specs.Kept.{compare_terms}
 use Rattle.run.specs.Entries.{add_entry}

@@ -1,6 +1,5 @@
 -- The theorems, each from the file that proves it.
 use Rattle.theory.specs.Ring.{CommutativeRing}
-use Rattle.theory.specs.FreeSum.{◌≈◌}
 use Rattle.theory.specs.Theorems.{SumsHaveNormalForms, DiamondLemma, BasisIffResolves, RewritingIsCongruent, NoEndlessRewriting, OperationsRespectCongruence}
 use Rattle.theory.proofs.NormalForm.{NF_first, NF_of_standard, NF-standard, NF_≈, NF-append, NF-negate, NF-scale}
 use Rattle.theory.proofs.Diamond.{NF_any}

@@ -7,7 +7,7 @@ use Prim.Native.Nat.{ℕ, ◌+◌}
 use native.Mathlib.Omega.{arith}
 use lib.Dec.{eqb}
 use Rattle.theory.specs.Ring.{CommutativeRing}
-use Rattle.theory.specs.FreeSum.{Word, place, Occurs, ◌≈◌, single}
+use Rattle.theory.specs.FreeSum.{Word, place, Occurs, single}
 use Rattle.theory.specs.Relations.{Pair, nondegeneracy}
 use Rattle.theory.specs.Rewriting.{Below}
 use Rattle.theory.specs.NormalForm.{Resolves}

@@ -1,5 +1,5 @@
 -- Comparing words is comparing lists: the key of the image, then the inversions, then the letters. So it is a strict total order.
-use Rattle.std.proofs.Common.{◌≡◌, ℕ, List, [], ◌∷◌, ◌++◌, Ordering, Less, Equal, Greater, sym, refl, ap, ◌∙◌, ap₂, ⊎_elim, arith}
+use Rattle.std.proofs.Common.{◌≡◌, ℕ, List, ◌∷◌, ◌++◌, Ordering, Less, Equal, Greater, sym, ap, ◌∙◌, arith}
 use Rattle.orders.specs.Letters.{image, length-image}
 use Rattle.orders.specs.Orders.{first_difference, numbers, then_by, reversed}
 use Rattle.orders.specs.Models.{OrderModel, compare_images}

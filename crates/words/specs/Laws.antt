@@ -1,5 +1,5 @@
 -- What holds of all words: they are ordered, and standard words are those without inversions.
-use Rattle.std.specs.Prelude.{◌≡◌, ℕ, suc, ◌<◌, true, List, length, take, Some, None, Decides, Option, slice_index}
+use Rattle.std.specs.Prelude.{◌≡◌, ℕ, suc, ◌<◌, true, List, length, take, Some, None, Decides, slice_index}
 use Rattle.orders.specs.Laws.{StrictOrder}
 use Rattle.orders.specs.Models.{OrderModel}
 use Rattle.words.specs.Compare.{compare_words}

@@ -1,4 +1,4 @@
-use Rattle.std.proofs.Common.{◌≡◌, sym, ap, ◌∙◌, arith, rules}
+use Rattle.std.proofs.Common.{sym, ap, arith, rules}
 use Rattle.std.proofs.lemmas.List.{at_drop_all, append_assoc, append-nil}
 use Rattle.orders.specs.Letters.{letters}
 use Rattle.answers.specs.Text.{letters_bytes}

@@ -1,4 +1,4 @@
-use Rattle.std.proofs.Common.{sym, ◌∙◌}
+use Rattle.std.proofs.Common.{◌∙◌}
 use Rattle.coefficients.proofs.RoundTrips.{read_back}
 use Rattle.coefficients.proofs.round_trip.read_again.Goals as goal
 

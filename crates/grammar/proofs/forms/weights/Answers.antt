@@ -1,4 +1,4 @@
-use Rattle.std.proofs.Common.{◌≡◌, ◌-◌, ◌<◌, length, take, ◌∙◌, arith, length-set, rules}
+use Rattle.std.proofs.Common.{◌≡◌, ◌<◌, length, take, ◌∙◌, arith, length-set, rules}
 use Rattle.std.proofs.lemmas.List.{take_more_set}
 use Rattle.grammar.specs.Reading.{read_number}
 use Rattle.grammar.proofs.Chains.{parts_more, last_part}

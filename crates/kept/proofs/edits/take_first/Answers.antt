@@ -1,5 +1,5 @@
-use Rattle.std.proofs.Common.{◌+◌, [], ◌∷◌, ◌++◌, take, refl, ap, ◌∙◌, arith, rules}
-use Rattle.std.proofs.lemmas.List.{drop-set-lt, take_more_set, get_or_read}
+use Rattle.std.proofs.Common.{◌+◌, [], ◌∷◌, ◌++◌, take, ap, ◌∙◌, arith, rules}
+use Rattle.std.proofs.lemmas.List.{drop-set-lt, take_more_set}
 use Rattle.kept.proofs.edits.take_first.Goals as goal
 
 pub returns : goal.returns

@@ -1,4 +1,4 @@
-use Rattle.std.proofs.Common.{◌≡◌, ℕ, ◌+◌, ◌-◌, ◌<◌, ◌≤◌, Bool, true, false, eqb, List, [], length, get_or, drop, Ok, Err, sym, refl, ap, ◌∙◌, arith, length-set}
+use Rattle.std.proofs.Common.{◌≡◌, ℕ, ◌+◌, ◌-◌, Bool, List, [], drop, Ok, sym, refl, ap, ◌∙◌, arith, length-set}
 use Rattle.std.proofs.lemmas.Result.{err_from_is_err_and}
 use Rattle.std.proofs.lemmas.List.{take-set-le}
 use Rattle.std.proofs.lemmas.Bool.{ne_eqb}
@@ -6,7 +6,7 @@ use Rattle.words.specs.declared.term.Term.{Term}
 use Rattle.orders.specs.Models.{OrderModel}
 use Rattle.kept.specs.Kept.{place, present}
 use Rattle.kept.specs.Search.{measured_term}
-use Rattle.kept.proofs.Places.{same_place, insert_here, insert-new, summed, summed-zero, summed-more, code-set, blanks-more, blanks_less}
+use Rattle.kept.proofs.Places.{same_place, insert_here, insert-new, summed-zero, summed-more, code-set, blanks-more, blanks_less}
 use Rattle.kept.proofs.insert.insert.Goals as goal
 
 -- the place of the measured term is that of the term

@@ -1,4 +1,4 @@
-use Rattle.std.proofs.Common.{◌+◌, ◌≤◌, arith}
+use Rattle.std.proofs.Common.{arith}
 use Rattle.kept.proofs.Searching.{passed-next, ahead_here, found_here}
 use Rattle.kept.proofs.search.halve.Goals as goal
 

@@ -1,4 +1,4 @@
-use Rattle.std.proofs.Common.{◌-◌, ◌≤◌, length}
+use Rattle.std.proofs.Common.{◌-◌}
 use Rattle.kept.specs.Search.{Bounds, measured_term}
 use Rattle.kept.specs.declared.search.Near.TheVariants.{Between}
 use Rattle.kept.proofs.search.halve.Given as goal

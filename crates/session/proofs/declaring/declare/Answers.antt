@@ -1,6 +1,5 @@
 use Rattle.std.proofs.Common.{◌≡◌, ℕ, List, map, Ok, Err, vec_items, Result, sym, refl, ap, ◌∙◌, subst}
 use Rattle.std.proofs.lemmas.Result.{err_from_is_err_and}
-use Rattle.words.specs.declared.term.Term.{Term}
 use Rattle.answers.specs.declared.fault.ScriptFault.{ScriptFault}
 use Rattle.choices.specs.declared.ring.AnyRing.{AnyRing}
 use Rattle.choices.specs.Rings.{ring_model}

@@ -1,4 +1,4 @@
-use Rattle.std.proofs.Common.{◌≡◌, sym, ap, ◌∙◌}
+use Rattle.std.proofs.Common.{sym, ap, ◌∙◌}
 use Rattle.answers.specs.declared.fault.ScriptFault.TheVariants as fault
 use Rattle.choices.specs.Orders.{degree_from}
 use Rattle.grammar.specs.Forms.{order_choice}

@@ -1,4 +1,4 @@
-use Rattle.std.proofs.Common.{◌≡◌, ◌+◌, ◌-◌, ◌<◌, [], ◌∷◌, ◌++◌, length, take, vec_items, sym, ap, ◌∙◌, subst, arith, length-drop, true-eqb, false-eqb}
+use Rattle.std.proofs.Common.{◌≡◌, ◌+◌, ◌-◌, [], ◌∷◌, ◌++◌, length, take, vec_items, sym, ap, ◌∙◌, subst, arith, length-drop, true-eqb, false-eqb}
 use Rattle.answers.specs.Answers.{answer_bytes}
 use Rattle.session.specs.State.{state_of}
 use Rattle.session.specs.Transcript.{answers, lines, line_turn}

@@ -1,4 +1,4 @@
-use Rattle.std.proofs.Common.{◌≡◌, ℕ, [], ◌∷◌, ◌++◌, IfOk, Ok, Err, Result, sym, ap, ◌∙◌}
+use Rattle.std.proofs.Common.{[], ◌∷◌, ◌++◌, IfOk, Ok, Err, Result, sym, ap, ◌∙◌}
 use Rattle.answers.specs.Answers.{answer_bytes, refused}
 use Rattle.answers.specs.declared.fault.ScriptFault.TheVariants.{Form}
 use Rattle.grammar.specs.declared.fault.FormFault.TheVariants.{TooLong}

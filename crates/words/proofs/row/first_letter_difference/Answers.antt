@@ -1,7 +1,6 @@
-use Rattle.std.proofs.Common.{◌≡◌, true, false, length, get_or, sym, refl, ap, ◌∙◌, ap₂, arith}
+use Rattle.std.proofs.Common.{◌≡◌, true, false, get_or, sym, ap, ◌∙◌, arith}
 use Rattle.std.proofs.lemmas.Bool.Decides.{nat_tests}
-use Rattle.orders.specs.Letters.{letters, is_letter}
-use Rattle.orders.specs.Orders.{first_difference}
+use Rattle.orders.specs.Letters.{is_letter}
 use Rattle.orders.proofs.Steps.{letters_stop, letters-go, letters-end}
 use Rattle.words.proofs.Filling.{place-more}
 use Rattle.words.proofs.row.first_letter_difference.Goals as goal

@@ -1,4 +1,4 @@
-use Rattle.std.proofs.Common.{◌≡◌, suc, ◌+◌, ◌-◌, length, get_or, drop, sym, ap, ◌∙◌, ap₂, arith}
+use Rattle.std.proofs.Common.{◌≡◌, suc, ◌+◌, ◌-◌, get_or, drop, sym, ap, ◌∙◌, ap₂, arith}
 use Rattle.orders.specs.Letters.{letters}
 use Rattle.orders.proofs.Steps.{letters_stop, letters-go, letters-end}
 use Rattle.words.specs.Inversions.{falls, leftmost_inversion}

@@ -1,5 +1,4 @@
-use Rattle.std.proofs.Common.{◌≡◌, true, false, length, get_or, ap, arith}
-use Rattle.orders.specs.Letters.{is_letter}
+use Rattle.std.proofs.Common.{length, ap, arith}
 use Rattle.orders.proofs.Steps.{letters_stop, letters-go, letters-end}
 use Rattle.words.proofs.row.row_length.Goals as goal
 

@@ -1,6 +1,5 @@
-use Rattle.std.proofs.Common.{◌≡◌, length, get_or, sym, refl, ap, ◌∙◌, arith}
+use Rattle.std.proofs.Common.{arith}
 use Rattle.std.proofs.lemmas.Bool.Decides.{nat_tests}
-use Rattle.coefficients.specs.Numerals.{read_digits}
 use Rattle.coefficients.proofs.Reading.{read_digits-more, read_digits-all}
 use Rattle.coefficients.proofs.numeral.reads.digits_value.Goals as goal
 

@@ -1,4 +1,4 @@
-use Rattle.std.proofs.Common.{◌≡◌, ℕ, ◌<◌, ◌≤◌, length, refl, arith}
+use Rattle.std.proofs.Common.{ℕ, arith}
 use native.Mathlib.Nat.{div-lt_self}
 use Rattle.std.proofs.lemmas.List.{length-set}
 use Rattle.coefficients.proofs.Spelling.{places-left, rest-falls, zeros-left, digit_more, last_digit}

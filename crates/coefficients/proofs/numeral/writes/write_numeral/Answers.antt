@@ -1,4 +1,4 @@
-use Rattle.std.proofs.Common.{◌≡◌, ℕ, ◌-◌, ◌<◌, ◌≤◌, List, ◌∷◌, ◌++◌, length, set, replicate, sym, refl, ap, ◌∙◌, arith}
+use Rattle.std.proofs.Common.{◌≡◌, ◌++◌, replicate, sym, ◌∙◌, arith}
 use Rattle.coefficients.specs.Numerals.{numeral, radix, signed_numeral}
 use Rattle.coefficients.proofs.Spelling.{sign-more, to_front}
 use Rattle.coefficients.proofs.numeral.writes.write_numeral.Goals as goal

@@ -1,4 +1,4 @@
-use Rattle.std.proofs.Common.{◌≡◌, ◌∷◌, sym, ap, ◌∙◌}
+use Rattle.std.proofs.Common.{◌∷◌, sym, ap, ◌∙◌}
 use Rattle.orders.specs.Images.{counts}
 use Rattle.orders.specs.Orders.{first_difference, dot}
 use Rattle.orders.specs.Weights.{weight_values}

@@ -1,4 +1,4 @@
-use Rattle.std.proofs.Common.{◌+◌, ◌^◌, ◌<◌, ◌≤◌, sym, arith, rules}
+use Rattle.std.proofs.Common.{◌+◌, sym, arith, rules}
 use Rattle.qpolynomials.specs.Product.{times}
 use Rattle.qpolynomials.specs.Degrees.{degree_times, degree_small, degree_large}
 use Rattle.qpolynomials.proofs.qpolynomials.QPolynomialsRing.product.Goals as goal

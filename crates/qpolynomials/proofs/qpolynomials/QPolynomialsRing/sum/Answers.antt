@@ -1,5 +1,5 @@
 use Rattle.std.proofs.Common.{◌^◌, ◌<◌, arith}
-use lib.Bits.{bit_xor, xor_lt}
+use lib.Bits.{xor_lt}
 use Rattle.std.proofs.lemmas.Bool.{lt-ltb}
 use Rattle.qpolynomials.proofs.qpolynomials.QPolynomialsRing.sum.Goals as goal
 

@@ -1,4 +1,4 @@
-use Rattle.std.proofs.Common.{◌≡◌, ◌<◌, sym, refl, ap, ◌∙◌, subst, arith}
+use Rattle.std.proofs.Common.{◌<◌, sym, subst, arith}
 use Rattle.grammar.proofs.Law.{forms_read}
 use Rattle.grammar.specs.Grammar.{nesting}
 use Rattle.session.specs.State.{state_of}
