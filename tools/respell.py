@@ -20,7 +20,7 @@ reverse filter equal refl sym ap fold""".split()
 # words that join others, whatever else has their name
 JOINING = set("a an and are at by ends first in is no none not of on or some whole".split())
 # two names that would fall together
-APART = {"Too-deep": "IsTooDeep", "Normal-forms": "SumsHaveNormalForms"}
+APART = {"Too-deep": "IsTooDeep", "Normal-forms": "SumsHaveNormalForms", "row-length": "row_places"}
 HEAD = re.compile(r"^(\s*)((?:(?:pub|abbrev|unfoldable|data|record|mutual)\s+)*)(" + WORD + r"+)\s*((?:\{[^}]*\}\s*)*):\s(.*)$")
 RECORD = re.compile(r"^(\s*)((?:(?:pub|abbrev|unfoldable)\s+)*)(record|data)\s+(" + WORD + r"+)")
 TOKEN = re.compile(WORD + "+")

@@ -7,7 +7,7 @@ use Rattle.theory.proofs.RingLaws as ring
 use Rattle.theory.proofs.Eval.{eval-append}
 use Rattle.theory.proofs.Equality.{≈-of-eval}
 use Rattle.coefficients.specs.Coding.{Coding, Answer}
-use Rattle.orders.specs.Letters.{letters, letter_count, row_length}
+use Rattle.orders.specs.Letters.{letters, letter_count, row_places}
 use Rattle.orders.specs.Models.{OrderModel}
 use Rattle.words.specs.Rows.{row_of}
 use Rattle.words.specs.Compare.{compare_words}
@@ -177,16 +177,16 @@ module _ (m : Coding) (o : OrderModel) (n : ℕ) where
   module _ (few : n ≤ letter_count) (cap : ℕ) where
     entry_adds : (e : Entry) (x : FreeTerm R) (xs ys : List Term) → EntryMeans m n e x → KeptTerms m o n xs → add_entry m o cap e xs ≡ Ok ys → Loaded (e ∷ []) (x ∷ []) xs ys
     unfolding add_entry eval compare_terms
-    entry_adds e x xs ys s k h = at (leb (length e.word) row_length) refl e.code refl (at_place-ok e.place (added m o cap (cond (leb (length e.word) row_length) (Some (row_of e.word)) None) e.code xs) ys h)
+    entry_adds e x xs ys s k h = at (leb (length e.word) row_places) refl e.code refl (at_place-ok e.place (added m o cap (cond (leb (length e.word) row_places) (Some (row_of e.word)) None) e.code xs) ys h)
       where
-        at : (b : Bool) → leb (length e.word) row_length ≡ b → (r : Answer) → e.code ≡ r → added m o cap (cond b (Some (row_of e.word)) None) r xs ≡ Ok ys → Loaded (e ∷ []) (x ∷ []) xs ys
+        at : (b : Bool) → leb (length e.word) row_places ≡ b → (r : Answer) → e.code ≡ r → added m o cap (cond b (Some (row_of e.word)) None) r xs ≡ Ok ys → Loaded (e ∷ []) (x ∷ []) xs ys
         at false l r q h = let z : ◌≡◌ {A = ℕ} 0 1 = cc in absurd (omega arith)
         at true l (Err f) q h = let z : ◌≡◌ {A = ℕ} 0 1 = cc in absurd (omega arith)
         at true l (Ok c) q h =
             let d = s.code c q in
             let t : Term = record { row = row_of e.word; code = c } in
             let w : letters (row_of e.word) ≡ e.word = letters_row n few e.word s.over in
-            let b = leb-true (length e.word) row_length l in
+            let b = leb-true (length e.word) row_places l in
             let i = insert-adds (cap - length xs) t xs ys (record { word = row_holds n few e.word s.over b; in_use = d.in_use }) k
             (from_kept-ok (insert m o (cap - length xs) t xs) ys h) in
             record {

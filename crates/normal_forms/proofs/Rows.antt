@@ -3,7 +3,7 @@ use Rattle.std.proofs.Common.{◌≡◌, ℕ, zero, suc, ◌-◌, ◌≤◌, tru
 use lib.ListN.{length-replicate}
 use Rattle.std.proofs.lemmas.Bool.{and_from, lt-ltb, le-leb}
 use Rattle.theory.specs.Words.{Letter, Over}
-use Rattle.orders.specs.Letters.{letters, is_letter, letter_count, row_length}
+use Rattle.orders.specs.Letters.{letters, is_letter, letter_count, row_places}
 use Rattle.words.specs.Rows.{row_of, is_row, all_zero}
 use Rattle.normal_forms.specs.Terms.{HoldsWord}
 
@@ -37,11 +37,11 @@ module _ (n : ℕ) (few : n ≤ letter_count) where
       ap (λ b. cond b (is_row (w ++ replicate k 0)) (all_zero (x ∷ (w ++ replicate k 0)))) (letter_is_letter n x few h.0) ∙ row_append k w h.1
 
   pub letters_row : (w : List ℕ) → Over n w → letters (row_of w) ≡ w
-  letters_row w h = letters-append (row_length - length w) w h
+  letters_row w h = letters-append (row_places - length w) w h
 
-  pub row_holds : (w : List ℕ) → Over n w → length w ≤ row_length → HoldsWord n (row_of w)
+  pub row_holds : (w : List ℕ) → Over n w → length w ≤ row_places → HoldsWord n (row_of w)
   row_holds w h l =
-      let k = row_length - length w in
+      let k = row_places - length w in
       let a = length-append w (replicate k 0) in
       let b : length (replicate {A = ℕ} k 0) ≡ k = length-replicate k 0 in
       record { full = omega arith; clean = row_append k w h; over = subst (Over n) (sym (letters_row w h)) h }

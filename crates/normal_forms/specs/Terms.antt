@@ -3,7 +3,7 @@ use Rattle.std.specs.Prelude.{◌≡◌, ℕ, true, ◌⊎◌, List, [], ◌∷�
 use Rattle.theory.specs.FreeSum.{FreeSum}
 use Rattle.theory.specs.Words.{Over}
 use Rattle.coefficients.specs.Coding.{Coding}
-use Rattle.orders.specs.Letters.{letters, row_length}
+use Rattle.orders.specs.Letters.{letters, row_places}
 use Rattle.orders.specs.Models.{OrderModel}
 use Rattle.words.specs.Rows.{is_row}
 use Rattle.words.specs.declared.term.Term.{Term}
@@ -21,7 +21,7 @@ Among x (y ∷ ys) = (x ≡ y) ⊎ Among x ys
 
 -- the row holds a word in the letters 1 to n, then zeros
 pub record HoldsWord (n : ℕ) (row : List ℕ) : Type 0 where
-  pub full : length row ≡ row_length
+  pub full : length row ≡ row_places
   pub clean : is_row row ≡ true
   pub over : Over n (letters row)
 

@@ -6,8 +6,8 @@ abbrev pub letter_count : ℕ
 letter_count = 8
 
 -- how many places a row has
-abbrev pub row_length : ℕ
-row_length = 32
+abbrev pub row_places : ℕ
+row_places = 32
 
 abbrev pub is_letter : ℕ → Bool
 is_letter x = nat_lt 0 x && nat_le x letter_count

@@ -40,7 +40,7 @@ dot-plus (w ∷ ws) (x ∷ a) (y ∷ b) e =
     let k = mul-add w x y in
     omega arith
 
--- by the weighted count, then as lex-model does
+-- by the weighted count, then as lex_model does
 abbrev pub degree_model : List ℕ → OrderModel
 degree_model ws = record {
   key = λ a. dot ws a ∷ a;

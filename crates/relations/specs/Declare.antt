@@ -4,7 +4,7 @@ use Rattle.std.specs.declared.cmp.Ordering.TheVariants.{Less, Equal, Greater}
 use Rattle.std.specs.declared.cmp.Ordering.{Ordering}
 use Rattle.coefficients.specs.Coding.{Coding}
 use Rattle.coefficients.specs.declared.fault.RingFault.TheVariants.{NotInUse}
-use Rattle.orders.specs.Letters.{letters, image, row_length}
+use Rattle.orders.specs.Letters.{letters, image, row_places}
 use Rattle.orders.specs.Models.{OrderModel, compare_images}
 use Rattle.words.specs.Inversions.{standard}
 use Rattle.words.specs.Rows.{is_row}
@@ -68,7 +68,7 @@ last_at ts p = cond (p == 0) None (Some (slice_index_or ts (p - 1) nil_term))
 -- every row has all its places
 abbrev pub AllFull : List Term → Type 0
 AllFull [] = Unit {0}
-AllFull (t ∷ ts) = (length t.row ≡ row_length) × AllFull ts
+AllFull (t ∷ ts) = (length t.row ≡ row_places) × AllFull ts
 
 -- the checks of a pair: both generators, j above i, not declared
 abbrev pub check_pair : {A : Type 0} → ℕ → List Bool → ℕ → ℕ → Result A DeclareFault → Result A DeclareFault

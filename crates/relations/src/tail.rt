@@ -1,7 +1,7 @@
 // The checks of a tail, term by term.
 ghost use Rattle.std.specs.Prelude.{◌≡◌, ◌+◌, ◌<◌, ◌≤◌, [], ◌∷◌, length, None, Err, OnOk};
 ghost use Rattle.std.specs.Option.{option_map};
-ghost use Rattle.orders.specs.Letters.{letters, row_length};
+ghost use Rattle.orders.specs.Letters.{letters, row_places};
 ghost use Rattle.relations.specs.Declare.{passed, is_word, letters_to, below_last, image_before, last_at, check_term, check_tail, AllFull};
 
 use crate::fault::{DeclareCause, DeclareFault};
@@ -94,7 +94,7 @@ fn check_term<R: Ring, O: MonomialOrder>(
     t: &Term,
 ) -> Result<(), DeclareFault>
     requires { (1 ≤ j) × ((j ≤ 8) × ((1 ≤ i) × (i ≤ 8))) }
-    ensures full { length t.now.row ≡ row_length }
+    ensures full { length t.now.row ≡ row_places }
     ensures answer { result ≡ check_term (R.Ring.model ring.now) (O.MonomialOrder.model order.now) n j i (option_map (λ x. x.now) last.entry) place t.now passed }
 {
     if !is_word_over(n, &t.row) {

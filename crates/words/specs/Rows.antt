@@ -1,6 +1,6 @@
 -- Which rows hold a word, and the row of a word.
 use Rattle.std.specs.Prelude.{ℕ, ◌-◌, Bool, true, cond, ◌&&◌, List, [], ◌∷◌, ◌++◌, length, replicate, ◌==◌}
-use Rattle.orders.specs.Letters.{is_letter, row_length}
+use Rattle.orders.specs.Letters.{is_letter, row_places}
 
 abbrev pub all_zero : List ℕ → Bool
 all_zero [] = true
@@ -13,4 +13,4 @@ is_row (x ∷ xs) = cond (is_letter x) (is_row xs) (all_zero (x ∷ xs))
 
 -- the letters of a word, then zeros
 abbrev pub row_of : List ℕ → List ℕ
-row_of w = w ++ replicate (row_length - length w) 0
+row_of w = w ++ replicate (row_places - length w) 0

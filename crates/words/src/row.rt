@@ -1,6 +1,6 @@
 // What is asked of the word that a plain row holds.
 ghost use Rattle.std.specs.Prelude.{◌≡◌, ◌≤◌, length, if◌then◌else◌};
-ghost use Rattle.orders.specs.Letters.{letters, is_letter, row_length};
+ghost use Rattle.orders.specs.Letters.{letters, is_letter, row_places};
 ghost use Rattle.orders.specs.Orders.{first_difference, numbers};
 ghost use Rattle.words.specs.Compare.{compare_words};
 ghost use Rattle.words.specs.Inversions.{inversions as inversions_of, standard, leftmost_inversion};
@@ -14,7 +14,7 @@ use std::cmp::Ordering;
 // How many letters there are.
 pub fn row_length(row: &Row) -> usize
     ensures value { result ≡ length (letters row.now) }
-    ensures bound { result ≤ row_length }
+    ensures bound { result ≤ row_places }
 {
     let mut n = 0;
     for x in row {

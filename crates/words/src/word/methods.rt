@@ -1,6 +1,6 @@
 // How words are made and grow, and what is asked of them.
 ghost use Rattle.std.specs.Prelude.{◌≡◌, ◌≤◌, true, false, [], length, MatchResult};
-ghost use Rattle.orders.specs.Letters.{image as image_of, row_length};
+ghost use Rattle.orders.specs.Letters.{image as image_of, row_places};
 ghost use Rattle.orders.specs.Images.{counts};
 ghost use Rattle.words.specs.Compare.{compare_words};
 ghost use Rattle.words.specs.Faults.{refusal_of};
@@ -93,7 +93,7 @@ impl Word {
 
     pub fn len(&self) -> usize
         ensures value { result ≡ length (spelled self.now) }
-        ensures bound { result ≤ row_length }
+        ensures bound { result ≤ row_places }
     {
         row_length(&self.row)
     }
