@@ -23,8 +23,8 @@ abbrev pub opened_table : Coding → List Relation
 opened_table m = replicate 64 (made_relation m.one [])
 
 -- no pair counts as declared
-abbrev pub undeclared : List Bool
-undeclared = replicate 64 false
+abbrev pub no_pairs : List Bool
+no_pairs = replicate 64 false
 
 -- x_j x_i = c x_i x_j + tail now, and all else is as it was
 abbrev pub declared_table : List Relation → ℕ → ℕ → ℕ → List Term → List Relation

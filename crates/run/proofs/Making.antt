@@ -1,14 +1,14 @@
--- A relation that was made has its factor and its tail, and nothing but them.
-use Rattle.std.proofs.Common.{◌≡◌, ℕ, ◌+◌, ◌-◌, ◌≤◌, min, List, ◌++◌, length, take, drop, refl, ap, subst, sym, ◌∙◌, arith}
+-- The relation that a factor and a tail make, from the places that are filled.
+use Rattle.std.proofs.Common.{◌≡◌, ℕ, ◌+◌, ◌-◌, ◌≤◌, min, List, ◌++◌, length, take, drop, ap, subst, sym, ◌∙◌, arith}
 use Rattle.std.proofs.Math.Nat.{min-le_left, min-eq_right}
 use Rattle.std.proofs.Math.Bridge.{le_prop}
 use Rattle.std.proofs.Math.Seq.{take-append-add}
-use Rattle.std.proofs.lemmas.List.{take_at, take-replicate, drop-replicate}
+use Rattle.std.proofs.lemmas.List.{take-replicate, drop-replicate}
 use Rattle.words.specs.Terms.{blank}
 use Rattle.words.specs.declared.term.Term.{Term}
 use Rattle.kept.specs.Terms.{blanks}
 use Rattle.run.specs.declared.relation.Relation.{Relation}
-use Rattle.run.specs.Relations.{tail_of, made_relation}
+use Rattle.run.specs.Relations.{made_relation}
 
 -- a number is at most eight in one way
 same_relation : (c : ℕ) (ts : List Term) (a b : ℕ) (h : a ≤ 8) (k : b ≤ 8) → a ≡ b
@@ -31,13 +31,3 @@ unfolding made_relation
 is_made c ts us k e =
     ap (λ (l : List Term). record { factor = c; count = length ts; tail = l; few = k }) (e ∙ ap (λ l. ts ++ l) (drop-replicate (length ts) 8 blank) ∙ sym (filled ts k))
     ∙ same_relation c (take 8 (ts ++ blanks 8)) (length ts) (min 8 (length ts)) k (min-le_left 8 (length ts)) (sym (min-eq_right k))
-
-pub made-factor : (c : ℕ) (ts : List Term) → (made_relation c ts).factor ≡ c
-unfolding made_relation
-made-factor c ts = refl
-
-pub made-tail : (c : ℕ) (ts : List Term) → length ts ≤ 8 → tail_of (made_relation c ts) ≡ ts
-unfolding made_relation tail_of
-made-tail c ts h =
-    ap (λ k. take k (take 8 (ts ++ blanks 8))) (min-eq_right h)
-    ∙ ap (take (length ts)) (filled ts h) ∙ take_at ts (blanks (8 - length ts)) (length ts) refl

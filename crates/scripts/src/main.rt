@@ -42,24 +42,20 @@ fn answer(rt: &HostRuntime, file: Option<String>) -> anyhow::Result<()> {
     print(rt, output.as_slice())
 }
 
-fn run(rt: &HostRuntime) -> anyhow::Result<()> {
-    let mut args = env::args(rt)?;
+fn main(rt: HostRuntime) -> anyhow::Result<()> {
+    let mut args = env::args(&rt)?;
     let _ = args.next();
     let Some(first) = args.next() else {
-        return answer(rt, None);
+        return answer(&rt, None);
     };
     if args.next().is_some() {
         return Err(anyhow!("more than one argument: see calculator --help"));
     }
     if first.as_str() == "--help" {
-        return print(rt, help::TEXT.as_bytes());
+        return print(&rt, help::TEXT.as_bytes());
     }
     if first.as_str() == "--version" {
-        return print(rt, VERSION.as_bytes());
+        return print(&rt, VERSION.as_bytes());
     }
-    answer(rt, Some(first))
-}
-
-fn main(rt: HostRuntime) -> anyhow::Result<()> {
-    run(&rt)
+    answer(&rt, Some(first))
 }

@@ -5,7 +5,7 @@ use Rattle.run.specs.declared.relation.Relation.{Relation}
 use Rattle.run.specs.Calls.{Memory}
 use Rattle.relations.specs.Counts.{is_count}
 use Rattle.relations.specs.Declare.{declare_answer}
-use Rattle.relations.specs.Presentations.{opened_table, undeclared, declared_table, with_pair}
+use Rattle.relations.specs.Presentations.{opened_table, no_pairs, declared_table, with_pair}
 use Rattle.algebra.specs.declared.fault.DecideFault.{DecideFault}
 use Rattle.algebra.specs.declared.verdict.Verdict.{Verdict}
 use Rattle.algebra.specs.declared.verdict.Verdict.TheVariants.{Undecided}
@@ -63,7 +63,7 @@ order_from (degree ws) = wrapped fault.Weight (degree_from (padded ws))
 -- the count, then the modulus, then the weights
 abbrev pub opening : ℕ → RingForm → OrderChoice → Result State ScriptFault
 opening n r o =
-    cond (is_count n) (and_then (ring_from r) (λ k. and_then (order_from o) (λ p. Ok (declaring k p n (opened_table (ring_model k)) undeclared)))) (Err (fault.Count (record {})))
+    cond (is_count n) (and_then (ring_from r) (λ k. and_then (order_from o) (λ p. Ok (declaring k p n (opened_table (ring_model k)) no_pairs)))) (Err (fault.Count (record {})))
 
 -- REL
 

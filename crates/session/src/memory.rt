@@ -1,4 +1,8 @@
 // The memory that a session calculates in.
+ghost use Rattle.std.specs.Prelude.{◌≡◌, [], map, replicate};
+ghost use Rattle.kept.specs.Terms.{blanks};
+ghost use Rattle.evaluation.specs.Frames.{frame_terms};
+
 use evaluation::frame::Frame;
 use words::term::Term;
 
@@ -17,7 +21,12 @@ pub struct Memory {
 }
 
 impl Memory {
-    pub fn blank() -> Memory {
+    // Every place is blank, and no frame holds a term.
+    pub fn blank() -> Memory
+        ensures work { result.work ≡ blanks 512 }
+        ensures out { result.out ≡ blanks 64 }
+        ensures stack { map frame_terms result.stack ≡ replicate 16 [] }
+    {
         Memory {
             work: [Term::blank(); WORK_TERMS],
             out: [Term::blank(); RESULT_TERMS],
