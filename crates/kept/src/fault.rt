@@ -22,11 +22,11 @@ impl From<RingFault> for KeptFault {
     }
 }
 
-impl KeptFault {
-    pub fn refusal(&self) -> Refusal
-        ensures { result ≡ kept_refusal self.now }
-    {
-        match self {
+impl From<KeptFault> for Refusal {
+    ghost from_gives = { λ e r. r ≡ kept_refusal e };
+
+    fn from(e: KeptFault) -> Refusal {
+        match e {
             KeptFault::Sum(f) => f.refusal(),
             KeptFault::Full => Refusal::plain(23, 2),
         }
