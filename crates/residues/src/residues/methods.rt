@@ -9,10 +9,10 @@ use coefficients::numeral::{Base, read_numeral, write_numeral};
 use coefficients::ring::Ring;
 use refusals::Refusal;
 
-impl ModulusOutOfRange {
-    pub fn refusal(&self) -> Refusal
-        ensures { result ≡ modulus_refusal self.now }
-    {
+impl From<ModulusOutOfRange> for Refusal {
+    ghost from_gives = { λ fault refusal. refusal ≡ modulus_refusal fault };
+
+    fn from(_fault: ModulusOutOfRange) -> Refusal {
         Refusal::plain(9, 1)
     }
 }

@@ -1,5 +1,5 @@
 // How words are made and grow, and what is asked of them.
-ghost use Rattle.std.specs.Prelude.{◌≡◌, ◌≤◌, true, false, [], length, MatchResult};
+ghost use Rattle.std.specs.Prelude.{◌≡◌, ◌≤◌, [], length};
 ghost use Rattle.orders.specs.Letters.{image as image_of, row_places};
 ghost use Rattle.orders.specs.Images.{counts};
 ghost use Rattle.words.specs.Compare.{compare_words};
@@ -8,8 +8,7 @@ ghost use Rattle.words.specs.Growth.{grown, answer, value_or};
 ghost use Rattle.words.specs.Inversions.{inversions as inversions_of, standard, leftmost_inversion};
 ghost use Rattle.words.specs.Laws.{WordsOrdered};
 ghost use Rattle.words.specs.Rows.{is_row, row_of};
-ghost use Rattle.words.specs.Spelled.{spelled};
-ghost use Rattle.words.specs.declared.word.WordFault.TheVariants.{NoWord};
+ghost use Rattle.words.specs.Spelled.{HeldBy, spelled};
 
 use crate::row::{
     compare_rows, row_inversions, row_is_standard, row_leftmost_inversion, row_length,
@@ -21,11 +20,11 @@ use orders::order::MonomialOrder;
 use refusals::Refusal;
 use std::cmp::Ordering;
 
-impl WordFault {
-    pub fn refusal(&self) -> Refusal
-        ensures { result ≡ refusal_of self.now }
-    {
-        match self {
+impl From<WordFault> for Refusal {
+    ghost from_gives = { λ fault refusal. refusal ≡ refusal_of fault };
+
+    fn from(fault: WordFault) -> Refusal {
+        match fault {
             WordFault::NoWord | WordFault::BadLetter => Refusal::plain(2, 3),
             WordFault::TooLong => Refusal::plain(11, 2),
         }
@@ -48,22 +47,26 @@ fn holds_word(row: &Row) -> bool
     true
 }
 
+impl TryFrom<Row> for Word {
+    type Error = WordFault;
+
+    ghost try_from_gives = { HeldBy };
+
+    fn try_from(row: Row) -> Result<Word, WordFault> {
+        if holds_word(&row) {
+            Ok(Word { row })
+        } else {
+            Err(WordFault::NoWord)
+        }
+    }
+}
+
 impl Word {
     pub fn empty() -> Word
         ensures { spelled result ≡ [] }
     {
         Word {
             row: [0; ROW_LENGTH],
-        }
-    }
-
-    pub fn from_row(row: Row) -> Result<Word, WordFault>
-        ensures { MatchResult result (λ w. (is_row row ≡ true) × (w.row ≡ row)) (λ e. (is_row row ≡ false) × (e ≡ NoWord)) }
-    {
-        if holds_word(&row) {
-            Ok(Word { row })
-        } else {
-            Err(WordFault::NoWord)
         }
     }
 
