@@ -1,7 +1,7 @@
 -- The letters of a row, one step along it.
-use Rattle.std.proofs.Common.{◌≡◌, ℕ, ◌+◌, ◌<◌, ◌≤◌, true, false, ltb, leb, List, [], ◌∷◌, length, get_or, drop}
+use Rattle.std.proofs.Common.{◌≡◌, ℕ, zero, suc, ◌+◌, ◌<◌, ◌≤◌, true, false, ltb, leb, List, [], ◌∷◌, length, get_or, drop, ⊎_elim, arith}
 use Rattle.std.proofs.lemmas.List.{drop_more, drop_all}
-use Rattle.std.proofs.lemmas.Bool.{and_parts, ltb-true, leb-true}
+use Rattle.std.proofs.lemmas.Bool.{and_parts, cases_Bool, ltb-true, leb-true}
 use Rattle.orders.specs.Letters.{letters, is_letter}
 
 pub letters_stop : (xs : List ℕ) (i : ℕ) → i < length xs → is_letter (get_or xs i 0) ≡ false → letters (drop i xs) ≡ []
@@ -15,3 +15,13 @@ letters-end xs i h = rw (drop_all i xs h)
 
 pub letter_bounds : (x : ℕ) → is_letter x ≡ true → (0 < x) × (x ≤ 8)
 letter_bounds x e = let p = and_parts (ltb 0 x) (leb x 8) e in (ltb-true 0 x p.0, leb-true x 8 p.1)
+
+-- a letter of the word is the number at its place of the row
+pub letters_at : (xs : List ℕ) (k : ℕ) → k < length (letters xs) → (get_or (letters xs) k 0 ≡ get_or xs k 0) × (is_letter (get_or xs k 0) ≡ true)
+letters_at [] k h = absurd (omega arith)
+letters_at (x ∷ xs) zero h = ⊎_elim (λ e. (rw e, e)) (λ e. absurd (omega (arith, rw e at h))) (cases_Bool (is_letter x))
+letters_at (x ∷ xs) (suc k) h =
+    ⊎_elim
+    (λ e. let i = letters_at xs k (omega (arith, rw e at h)) in (rw e i.0, i.1))
+    (λ e. absurd (omega (arith, rw e at h)))
+    (cases_Bool (is_letter x))
