@@ -27,7 +27,7 @@ impl From<KeptFault> for Refusal {
 
     fn from(e: KeptFault) -> Refusal {
         match e {
-            KeptFault::Sum(f) => f.refusal(),
+            KeptFault::Sum(f) => Refusal::from(f),
             KeptFault::Full => Refusal::plain(23, 2),
         }
     }

@@ -1,6 +1,6 @@
 // Insertion into the list that goes from `start` to the end of its memory, its words falling.
-ghost use Rattle.std.specs.Prelude.{◌≡◌, ◌≤◌, length, drop};
-ghost use Rattle.kept.specs.Falling.{Falls};
+ghost use Rattle.std.specs.Prelude.{drop};
+ghost use Rattle.kept.specs.Falling.{ListFrom};
 ghost use Rattle.kept.specs.Kept.{insert as insertion};
 ghost use Rattle.kept.specs.Post.{Inserted};
 
@@ -20,8 +20,7 @@ pub fn insert<R: Ring, O: MonomialOrder>(
     start: usize,
     t: Term,
 ) -> Result<usize, KeptFault>
-    requires within { start ≤ length work.old }
-    requires falls { Falls (O.model order.now) (drop start work.old) }
+    requires { ListFrom (O.model order.now) start work.old }
     ensures { Inserted (insertion (R.model ring.now) (O.model order.now) start t (drop start work.old)) start work.old work.new result }
 {
     if t.code == 0 {

@@ -1,6 +1,6 @@
 // Where a term belongs in a list whose words fall: from the front in doubling strides, then by halves.
 ghost use Rattle.std.specs.Prelude.{◌≡◌, ◌<◌, ◌≤◌, length, drop, IfOk, IfErr, Err};
-ghost use Rattle.kept.specs.Falling.{Falls};
+ghost use Rattle.kept.specs.Falling.{ListFrom};
 ghost use Rattle.kept.specs.Search.{Near, Settled, found_place, measured_term};
 
 use orders::order::MonomialOrder;
@@ -71,8 +71,7 @@ pub fn find_place<O: MonomialOrder>(
     start: usize,
     t: &Measured,
 ) -> Result<usize, usize>
-    requires within { start ≤ length work.now }
-    requires falls { Falls (O.model order.now) (drop start work.now) }
+    requires { ListFrom (O.model order.now) start work.now }
     ensures value { result ≡ found_place (O.model order.now) start (measured_term t.now) (drop start work.now) }
     ensures here { IfOk result (λ p. (start ≤ p) × (p < length work.now)) }
     ensures absent { IfErr result (λ p. (start ≤ p) × (p ≤ length work.now)) }

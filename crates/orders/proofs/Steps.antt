@@ -1,5 +1,5 @@
 -- The letters of a row, one step along it.
-use Rattle.std.proofs.Common.{◌≡◌, ℕ, suc, ◌+◌, ◌<◌, ◌≤◌, true, false, ltb, leb, List, [], ◌∷◌, length, get_or, take, drop, refl, ap, ◌∙◌, ⊎_elim, arith}
+use Rattle.std.proofs.Common.{◌≡◌, ℕ, zero, suc, ◌+◌, ◌<◌, ◌≤◌, true, false, ltb, leb, List, [], ◌∷◌, length, get_or, take, drop, refl, ap, ◌∙◌, ⊎_elim, arith}
 use Rattle.std.specs.List.{prefix_len}
 use Rattle.std.proofs.lemmas.List.{drop_more, drop_all}
 use Rattle.std.proofs.lemmas.Bool.{cases_Bool, and_parts, ltb-true, leb-true}
@@ -31,3 +31,13 @@ pub letters_taken : (xs : List ℕ) → take (prefix_len is_letter xs) xs ≡ le
 letters_taken [] = refl
 letters_taken (x ∷ xs) =
     ⊎_elim (λ e. rw e (take_one (prefix_len is_letter xs) x xs ∙ ap (λ w. x ∷ w) (letters_taken xs))) (λ e. rw e) (cases_Bool (is_letter x))
+
+-- a letter of the word is the number at its place of the row
+pub letters_at : (xs : List ℕ) (k : ℕ) → k < length (letters xs) → (get_or (letters xs) k 0 ≡ get_or xs k 0) × (is_letter (get_or xs k 0) ≡ true)
+letters_at [] k h = absurd (omega arith)
+letters_at (x ∷ xs) zero h = ⊎_elim (λ e. (rw e, e)) (λ e. absurd (omega (arith, rw e at h))) (cases_Bool (is_letter x))
+letters_at (x ∷ xs) (suc k) h =
+    ⊎_elim
+    (λ e. let i = letters_at xs k (omega (arith, rw e at h)) in (rw e i.0, i.1))
+    (λ e. absurd (omega (arith, rw e at h)))
+    (cases_Bool (is_letter x))

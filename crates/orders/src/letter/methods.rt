@@ -1,8 +1,8 @@
 // How letters are made and read.
-ghost use Rattle.std.specs.Prelude.{◌≡◌, ◌<◌, ◌≤◌, true, false, MatchOption};
-ghost use Rattle.orders.specs.Letters.{is_letter};
+ghost use Rattle.std.specs.Prelude.{◌≡◌, ◌<◌, ◌≤◌, true, false, length, slice_index, MatchOption};
+ghost use Rattle.orders.specs.Letters.{is_letter, letters};
 
-use crate::letter::{LETTERS, Letter};
+use crate::letter::{LETTERS, Letter, Row};
 
 impl Letter {
     // None where no letter has the number.
@@ -13,6 +13,14 @@ impl Letter {
             return None;
         }
         Some(Letter { number: n as u8 })
+    }
+
+    // The letter at a place of the word that a row holds.
+    pub fn at(row: &Row, place: usize) -> Letter
+        requires { place < length (letters row.now) }
+        ensures { result.number ≡ slice_index (letters row.now) place }
+    {
+        Letter { number: row[place] }
     }
 
     pub fn number(&self) -> u8
