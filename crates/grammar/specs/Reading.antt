@@ -77,6 +77,13 @@ formed None rest = Err Misfit
 abbrev pub read_number : List ℕ → Reads ℕ
 read_number bs = and_then (read_atom bs) (λ p. formed (number_of p.0) p.1)
 
+-- what was read of an atom: what the atom stands for, by an answer that `gives` allows
+abbrev pub Forms : {X : Type 0} → (List ℕ → Option X → Type 0) → Reads (List ℕ) → Result (X × Bor (List ℕ)) ReadFault → Type 0
+Forms gives (Ok p) (Ok q) = gives p.0 (Some q.0) × (p.1 ≡ q.1.now)
+Forms gives (Ok p) (Err e) = gives p.0 None × (e ≡ Misfit)
+Forms gives (Err e) (Ok q) = ⊥
+Forms gives (Err e) (Err x) = e ≡ x
+
 -- a number and the space behind it
 abbrev pub read_spaced_number : List ℕ → Reads ℕ
 read_spaced_number bs = and_then (read_number bs) (λ p. and_then (expect (32 ∷ []) p.1) (λ q. Ok (p.0, q)))
@@ -92,6 +99,11 @@ read_generator bs = and_then (read_atom bs) (λ p. formed (generator_of p.0) p.1
 abbrev pub unless_generator : Option ℕ → List ℕ → List ℕ → Reads (List ℕ)
 unless_generator (Some n) a rest = Err Misfit
 unless_generator None a rest = Ok (a, rest)
+
+-- what is no generator is its own bytes
+abbrev pub CoefficientIn : List ℕ → Option (Bor (List ℕ)) → Type 0
+CoefficientIn a (Some r) = (generator_of a ≡ None) × (r.now ≡ a)
+CoefficientIn a None = (n : ℕ) × (generator_of a ≡ Some n)
 
 abbrev pub read_coefficient : List ℕ → Reads (List ℕ)
 read_coefficient bs = and_then (read_atom bs) (λ p. unless_generator (generator_of p.0) p.0 p.1)

@@ -12,22 +12,12 @@ use crate::piece::{Operator, Piece};
 fn operator(s: &[u8]) -> Result<(Operator, &[u8]), ReadFault>
     ensures { seen result ≡ read_operator s.now }
 {
-    let Some((b, rest)) = s.split_first() else {
-        return Err(ReadFault::Misfit);
-    };
-    let op = match *b {
-        b'+' => Operator::Sum,
-        b'*' => Operator::Product,
-        b'-' => Operator::Difference,
-        _ => return Err(ReadFault::Misfit),
-    };
-    let Some((c, rest)) = rest.split_first() else {
-        return Err(ReadFault::Misfit);
-    };
-    if *c != b' ' {
-        return Err(ReadFault::Misfit);
+    match s {
+        [b'+', b' ', rest @ ..] => Ok((Operator::Sum, rest)),
+        [b'*', b' ', rest @ ..] => Ok((Operator::Product, rest)),
+        [b'-', b' ', rest @ ..] => Ok((Operator::Difference, rest)),
+        _ => Err(ReadFault::Misfit),
     }
-    Ok((op, rest))
 }
 
 fn leaf_of_atom<'a>(a: &'a [u8]) -> Piece<'a>
@@ -62,28 +52,20 @@ fn read_leaf<'a>(
 fn can_end(op: Operator, joined: usize) -> bool
     ensures { result ≡ may_end op joined }
 {
-    match op {
-        Operator::Difference => joined == 1,
-        _ => true,
-    }
+    op != Operator::Difference || joined == 1
 }
 
 fn can_go_on(op: Operator, joined: usize) -> bool
     ensures { result ≡ may_go_on op joined }
 {
-    match op {
-        Operator::Difference => joined == 0,
-        _ => true,
-    }
+    op != Operator::Difference || joined == 0
 }
 
+// What stands behind an opening bracket.
 fn opened(s: &[u8]) -> Option<&[u8]>
     ensures { Opens s.now result }
 {
-    match s.split_first() {
-        Some((b, rest)) if *b == b'(' => Some(rest),
-        _ => None,
-    }
+    s.strip_prefix(b"(")
 }
 
 // Reads an expression whose brackets nest at most `depth` deep, and writes its instructions from place `at` on.
