@@ -1,12 +1,12 @@
 // The reader of expressions, and of their leaves.
-ghost use Rattle.std.specs.Prelude.{◌≡◌, ℕ, ◌+◌, ◌<◌, ◌≤◌, List, [], ◌∷◌, length};
-ghost use Rattle.grammar.specs.Reading.{seen, Left};
+ghost use Rattle.std.specs.Prelude.{◌≡◌, length};
+ghost use Rattle.grammar.specs.Reading.{seen, Room, Left};
 ghost use Rattle.grammar.specs.ExpressionReader.{read_operator, leaf_of, may_end, may_go_on, Opens, read_leaf, read_expr};
-ghost use Rattle.grammar.specs.Pieces.{Stored, shown, postfix};
+ghost use Rattle.grammar.specs.Pieces.{shown, postfix};
 
 use crate::bytes::{Next, atom, generator_in, next_part};
 use crate::fault::ReadFault;
-use crate::piece::{Operator, Piece};
+use crate::piece::{Operator, Piece, Pieces};
 
 // After an opening bracket: the operator and the space behind it.
 fn operator(s: &[u8]) -> Result<(Operator, &[u8]), ReadFault>
@@ -29,24 +29,13 @@ fn leaf_of_atom<'a>(a: &'a [u8]) -> Piece<'a>
     }
 }
 
-pub(crate) fn store<'a>(pieces: &mut [Piece<'a>], at: usize, one: Piece<'a>)
-    requires { at < length pieces.old }
-    ensures { Stored pieces.old pieces.new at (at + 1) (shown one.entry ∷ []) }
-{
-    pieces[at] = one;
-}
-
-fn read_leaf<'a>(
-    s: &'a [u8],
-    pieces: &mut [Piece<'a>],
-    at: usize,
-) -> Result<(usize, &'a [u8]), ReadFault>
-    requires { at + length s.now ≤ length pieces.old }
-    ensures { Left postfix (read_leaf s.now) (length s.now) at pieces.old pieces.new result }
+fn read_leaf<'a>(s: &'a [u8], pieces: &mut Pieces<'a>) -> Result<&'a [u8], ReadFault>
+    requires { Room pieces.old.items s.now }
+    ensures { Left postfix (read_leaf s.now) (length s.now) pieces.old.items pieces.new.items result }
 {
     let (a, rest) = atom(s)?;
-    store(pieces, at, leaf_of_atom(a));
-    Ok((at + 1, rest))
+    pieces.push(leaf_of_atom(a));
+    Ok(rest)
 }
 
 fn can_end(op: Operator, joined: usize) -> bool
@@ -68,24 +57,23 @@ fn opened(s: &[u8]) -> Option<&[u8]>
     s.strip_prefix(b"(")
 }
 
-// Reads an expression whose brackets nest at most `depth` deep, and writes its instructions from place `at` on.
+// Reads an expression whose brackets nest at most `depth` deep, and adds its instructions to the pieces.
 pub(crate) fn expression<'a>(
     s: &'a [u8],
     depth: usize,
-    pieces: &mut [Piece<'a>],
-    at: usize,
-) -> Result<(usize, &'a [u8]), ReadFault>
-    requires { at + length s.now ≤ length pieces.old }
-    ensures { Left postfix (read_expr depth s.now) (length s.now) at pieces.old pieces.new result }
+    pieces: &mut Pieces<'a>,
+) -> Result<&'a [u8], ReadFault>
+    requires { Room pieces.old.items s.now }
+    ensures { Left postfix (read_expr depth s.now) (length s.now) pieces.old.items pieces.new.items result }
 {
     let Some(inner) = opened(s) else {
-        return read_leaf(s, pieces, at);
+        return read_leaf(s, pieces);
     };
     if depth == 0 {
         return Err(ReadFault::DeepBracket);
     }
     let (op, start) = operator(inner)?;
-    let (mut n, mut rest) = expression(start, depth - 1, pieces, at)?;
+    let mut rest = expression(start, depth - 1, pieces)?;
     let mut joined = 0usize;
     loop {
         let (next, after) = next_part(rest)?;
@@ -94,16 +82,14 @@ pub(crate) fn expression<'a>(
                 if !can_end(op, joined) {
                     return Err(ReadFault::Misfit);
                 }
-                return Ok((n, after));
+                return Ok(after);
             }
             Next::Part => {
                 if !can_go_on(op, joined) {
                     return Err(ReadFault::Misfit);
                 }
-                let (m, more) = expression(after, depth - 1, pieces, n)?;
-                store(pieces, m, Piece::Join(op));
-                n = m + 1;
-                rest = more;
+                rest = expression(after, depth - 1, pieces)?;
+                pieces.push(Piece::Join(op));
                 joined += 1;
             }
         }

@@ -3,6 +3,7 @@ ghost use Rattle.std.specs.Prelude.{◌≡◌, ◌≤◌, [], ◌∷◌, ◌++�
 
 use crate::fault::ReadFault;
 use crate::forms::RingForm;
+use crate::piece::Piece;
 
 // The weights as they are written: the first `count` of eight places, since a form is `Copy`.
 #[derive(Clone, Copy)]
@@ -54,12 +55,12 @@ pub enum OrderForm {
     Degree(Weights),
 }
 
-// A form. The terms of a relation and an expression are in the pieces beside it, which are as many as the number says: of each term its
-// coefficient and then its generators, of an expression its postfix form.
+// A form. The tail of a relation is the pieces of its terms, of each its coefficient and then its generators, and an expression is its
+// postfix form.
 #[derive(Clone, Copy)]
-pub enum Line<'a> {
+pub enum Line<'p, 'a> {
     Algebra(u64, RingForm, OrderForm),
-    Rel(u64, u64, &'a [u8], usize),
+    Rel(u64, u64, &'a [u8], &'p [Piece<'a>]),
     Decide,
-    Calc(usize),
+    Calc(&'p [Piece<'a>]),
 }

@@ -1,5 +1,5 @@
 // The reader of a line.
-ghost use Rattle.std.specs.Prelude.{◌≡◌, ◌≤◌, List, length};
+ghost use Rattle.std.specs.Prelude.{◌≡◌, ◌≤◌, [], length};
 ghost use Rattle.grammar.specs.FormReader.{read_algebra, read_rel, read_calc, read_any, read_form, Held, Answered};
 
 use crate::bytes::{coefficient, spaced_number, take_bytes};
@@ -7,16 +7,16 @@ use crate::expression::expression;
 use crate::fault::{FormFault, ReadFault};
 use crate::forms::{order, ring};
 use crate::line::Line;
-use crate::piece::Piece;
-use crate::terms::terms;
+use crate::piece::Pieces;
+use crate::terms::{Term, parts};
 
 pub const LINE_LENGTH: usize = 1000;
 
 const NESTING: usize = 15;
 
 // What stands behind "(algebra ".
-fn algebra<'a>(s: &'a [u8]) -> Result<(Line<'a>, &'a [u8]), ReadFault>
-    ensures { (ps : List Piece) → Held (read_algebra s.now) ps result }
+fn algebra<'p, 'a>(s: &'a [u8]) -> Result<(Line<'p, 'a>, &'a [u8]), ReadFault>
+    ensures { Held (read_algebra s.now) result }
 {
     let (n, a) = spaced_number(s)?;
     let (ring, b) = ring(a)?;
@@ -27,30 +27,42 @@ fn algebra<'a>(s: &'a [u8]) -> Result<(Line<'a>, &'a [u8]), ReadFault>
 }
 
 // What stands behind "(rel ".
-fn relation<'a>(s: &'a [u8], pieces: &mut [Piece<'a>]) -> Result<(Line<'a>, &'a [u8]), ReadFault>
-    requires { length s.now ≤ length pieces.old }
-    ensures { Held (read_rel s.now) pieces.new result }
+fn relation<'p, 'a>(
+    s: &'a [u8],
+    pieces: &'p mut Pieces<'a>,
+) -> Result<(Line<'p, 'a>, &'a [u8]), ReadFault>
+    requires empty { pieces.old.items ≡ [] }
+    requires room { length s.now ≤ 1000 }
+    ensures { Held (read_rel s.now) result }
 {
     let (j, a) = spaced_number(s)?;
     let (i, b) = spaced_number(a)?;
     let (factor, c) = coefficient(b)?;
-    let (count, rest) = terms(c, pieces)?;
-    Ok((Line::Rel(j, i, factor, count), rest))
+    let rest = parts::<Term>(c, pieces)?;
+    Ok((Line::Rel(j, i, factor, pieces.as_slice()), rest))
 }
 
 // What stands behind "(calc ".
-fn calculation<'a>(s: &'a [u8], pieces: &mut [Piece<'a>]) -> Result<(Line<'a>, &'a [u8]), ReadFault>
-    requires { length s.now ≤ length pieces.old }
-    ensures { Held (read_calc s.now) pieces.new result }
+fn calculation<'p, 'a>(
+    s: &'a [u8],
+    pieces: &'p mut Pieces<'a>,
+) -> Result<(Line<'p, 'a>, &'a [u8]), ReadFault>
+    requires empty { pieces.old.items ≡ [] }
+    requires room { length s.now ≤ 1000 }
+    ensures { Held (read_calc s.now) result }
 {
-    let (count, a) = expression(s, NESTING, pieces, 0)?;
+    let a = expression(s, NESTING, pieces)?;
     let rest = take_bytes(a, b")")?;
-    Ok((Line::Calc(count), rest))
+    Ok((Line::Calc(pieces.as_slice()), rest))
 }
 
-fn form<'a>(s: &'a [u8], pieces: &mut [Piece<'a>]) -> Result<(Line<'a>, &'a [u8]), ReadFault>
-    requires { length s.now ≤ length pieces.old }
-    ensures { Held (read_any s.now) pieces.new result }
+fn form<'p, 'a>(
+    s: &'a [u8],
+    pieces: &'p mut Pieces<'a>,
+) -> Result<(Line<'p, 'a>, &'a [u8]), ReadFault>
+    requires empty { pieces.old.items ≡ [] }
+    requires room { length s.now ≤ 1000 }
+    ensures { Held (read_any s.now) result }
 {
     if let Ok(inner) = take_bytes(s, b"(algebra ") {
         return algebra(inner);
@@ -65,16 +77,17 @@ fn form<'a>(s: &'a [u8], pieces: &mut [Piece<'a>]) -> Result<(Line<'a>, &'a [u8]
     Ok((Line::Decide, rest))
 }
 
-// The form that a line holds; its terms or its expression are left in the pieces.
-pub fn read_line<'a>(
+// The form that a line holds, with the pieces of its terms or of its expression in the memory that is lent.
+pub fn read_line<'p, 'a>(
     line: &'a [u8],
-    pieces: &mut [Piece<'a>; LINE_LENGTH],
-) -> Result<Line<'a>, FormFault>
-    ensures { Answered (read_form line.now) pieces.new result }
+    pieces: &'p mut Pieces<'a>,
+) -> Result<Line<'p, 'a>, FormFault>
+    ensures { Answered (read_form line.now) result }
 {
     if line.len() > LINE_LENGTH {
         return Err(FormFault::TooLong);
     }
+    pieces.clear();
     let (read, rest) = form(line, pieces)?;
     if !rest.is_empty() {
         return Err(FormFault::Unreadable);

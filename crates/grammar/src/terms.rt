@@ -1,73 +1,76 @@
 // The reader of the terms of a relation's tail.
-ghost use Rattle.std.specs.Prelude.{◌≡◌, ◌+◌, ◌≤◌, List, [], map, length};
-ghost use Rattle.grammar.specs.Reading.{Left, read_parts, read_generator};
-ghost use Rattle.grammar.specs.FormReader.{read_term, read_terms};
-ghost use Rattle.grammar.specs.Forms.{one_term, term_pieces};
-ghost use Rattle.grammar.specs.Pieces.{a_generator};
+ghost use Rattle.std.specs.Prelude.{◌≡◌, ℕ, List, [], ◌∷◌, length};
+ghost use Rattle.std.specs.List.{flat_map};
+ghost use Rattle.grammar.specs.Reading.{Reads, Room, Left, read_parts, read_generator};
+ghost use Rattle.grammar.specs.FormReader.{read_term};
+ghost use Rattle.grammar.specs.Forms.{TermForm, one_term};
+ghost use Rattle.grammar.specs.Pieces.{Shown, a_generator};
 
 use crate::bytes::{Next, coefficient, generator, next_part, take_bytes};
-use crate::expression::store;
 use crate::fault::ReadFault;
-use crate::piece::Piece;
+use crate::piece::{Piece, Pieces};
 
-// The generators up to the closing bracket, each behind a space.
-fn generators<'a>(
+// A kind of part of a list, and how one is read into pieces.
+pub(crate) trait Part {
+    ghost Value: { Type 0 };
+
+    ghost reads: { List ℕ → Reads Value };
+
+    ghost shows: { Value → List Shown };
+
+    fn read<'a>(s: &'a [u8], pieces: &mut Pieces<'a>) -> Result<&'a [u8], ReadFault>
+        requires { Room pieces.old.items s.now }
+        ensures { Left shows (reads s.now) (length s.now) pieces.old.items pieces.new.items result };
+}
+
+// The parts up to the closing bracket, each behind a space.
+pub(crate) fn parts<'a, P: Part>(
     s: &'a [u8],
-    pieces: &mut [Piece<'a>],
-    at: usize,
-) -> Result<(usize, &'a [u8]), ReadFault>
-    requires { at + length s.now ≤ length pieces.old }
-    ensures { Left (map a_generator) (read_parts (length s.now) read_generator [] s.now) (length s.now) at pieces.old pieces.new result }
+    pieces: &mut Pieces<'a>,
+) -> Result<&'a [u8], ReadFault>
+    requires { Room pieces.old.items s.now }
+    ensures { Left (flat_map P.shows) (read_parts (length s.now) P.reads [] s.now) (length s.now) pieces.old.items pieces.new.items result }
 {
-    let mut n = at;
     let mut rest = s;
     loop {
         let (next, after) = next_part(rest)?;
         match next {
-            Next::End => return Ok((n, after)),
-            Next::Part => {
-                let (x, more) = generator(after)?;
-                store(pieces, n, Piece::Generator(x));
-                n += 1;
-                rest = more;
-            }
+            Next::End => return Ok(after),
+            Next::Part => rest = P::read(after, pieces)?,
         }
     }
 }
 
-fn term<'a>(
-    s: &'a [u8],
-    pieces: &mut [Piece<'a>],
-    at: usize,
-) -> Result<(usize, &'a [u8]), ReadFault>
-    requires { at + length s.now ≤ length pieces.old }
-    ensures { Left one_term (read_term s.now) (length s.now) at pieces.old pieces.new result }
-{
-    let inner = take_bytes(s, b"(")?;
-    let (c, after) = coefficient(inner)?;
-    store(pieces, at, Piece::Coefficient(c));
-    generators(after, pieces, at + 1)
+pub(crate) struct Generator;
+
+impl Part for Generator {
+    ghost Value = { ℕ };
+
+    ghost reads = { read_generator };
+
+    ghost shows = { λ n. a_generator n ∷ [] };
+
+    fn read<'a>(s: &'a [u8], pieces: &mut Pieces<'a>) -> Result<&'a [u8], ReadFault> {
+        let (n, rest) = generator(s)?;
+        pieces.push(Piece::Generator(n));
+        Ok(rest)
+    }
 }
 
-// The terms up to the closing bracket, each behind a space; their pieces from the first place on.
-pub(crate) fn terms<'a>(
-    s: &'a [u8],
-    pieces: &mut [Piece<'a>],
-) -> Result<(usize, &'a [u8]), ReadFault>
-    requires { length s.now ≤ length pieces.old }
-    ensures { Left term_pieces (read_terms s.now) (length s.now) 0 pieces.old pieces.new result }
-{
-    let mut n = 0;
-    let mut rest = s;
-    loop {
-        let (next, after) = next_part(rest)?;
-        match next {
-            Next::End => return Ok((n, after)),
-            Next::Part => {
-                let (m, more) = term(after, pieces, n)?;
-                n = m;
-                rest = more;
-            }
-        }
+// In brackets, a coefficient and its generators.
+pub(crate) struct Term;
+
+impl Part for Term {
+    ghost Value = { TermForm };
+
+    ghost reads = { read_term };
+
+    ghost shows = { one_term };
+
+    fn read<'a>(s: &'a [u8], pieces: &mut Pieces<'a>) -> Result<&'a [u8], ReadFault> {
+        let inner = take_bytes(s, b"(")?;
+        let (c, after) = coefficient(inner)?;
+        pieces.push(Piece::Coefficient(c));
+        parts::<Generator>(after, pieces)
     }
 }
