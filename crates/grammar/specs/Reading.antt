@@ -5,7 +5,7 @@ use Rattle.grammar.specs.declared.fault.ReadFault.{ReadFault}
 use Rattle.grammar.specs.declared.fault.ReadFault.TheVariants.{Misfit}
 use Rattle.grammar.specs.declared.bytes.Next.{Next}
 use Rattle.grammar.specs.declared.bytes.Next.TheVariants.{Part, End}
-use Rattle.grammar.specs.declared.piece.Piece.{Piece}
+use Rattle.grammar.specs.declared.reading.Reading.{Reading}
 use Rattle.grammar.specs.Pieces.{Shown, Added}
 
 abbrev pub Reads : Type 0 → Type 0
@@ -29,15 +29,12 @@ abbrev pub seen_rest : Result (Bor (List ℕ)) ReadFault → Result (List ℕ) R
 seen_rest (Ok p) = Ok p.now
 seen_rest (Err e) = Err e
 
--- as many pieces as the bytes to be read may be added
-abbrev pub Room : List Piece → List ℕ → Type 0
-Room pieces bs = length pieces + length bs ≤ 1000
-
--- the pieces of what was read stand behind those before; of `size` bytes some were taken, as many at least as pieces were added
-abbrev pub Left : {X : Type 0} → (X → List Shown) → Reads X → ℕ → List Piece → List Piece → Result (Bor (List ℕ)) ReadFault → Type 0
-Left {X} of spec size old new (Ok rest) =
-    (x : X) × (spec ≡ Ok (x, rest.now)) × Added old new (of x) × (length new + length rest.now ≤ length old + size) × (length rest.now < size)
-Left of spec size old new (Err x) = spec ≡ Err x
+-- the pieces of what was read stand behind those before, and the rest is left; some bytes were taken, as many at least as pieces were added
+abbrev pub Left : {X : Type 0} → (X → List Shown) → Reads X → Reading → Reading → Result (Unit {0}) ReadFault → Type 0
+Left {X} of spec old new (Ok _) =
+    (x : X) × (spec ≡ Ok (x, new.rest.now)) × Added old.pieces.now.items new.pieces.now.items (of x)
+    × (length new.pieces.now.items + length new.rest.now ≤ length old.pieces.now.items + length old.rest.now) × (length new.rest.now < length old.rest.now)
+Left of spec old new (Err e) = spec ≡ Err e
 
 abbrev pub and_then : {X Y : Type 0} → Result X ReadFault → (X → Result Y ReadFault) → Result Y ReadFault
 and_then (Ok x) f = f x

@@ -1,12 +1,13 @@
 // The reader of expressions, and of their leaves.
-ghost use Rattle.std.specs.Prelude.{◌≡◌, length};
-ghost use Rattle.grammar.specs.Reading.{seen, Room, Left};
+ghost use Rattle.std.specs.Prelude.{◌≡◌};
+ghost use Rattle.grammar.specs.Reading.{seen, Left};
 ghost use Rattle.grammar.specs.ExpressionReader.{read_operator, leaf_of, may_end, may_go_on, Opens, read_leaf, read_expr};
 ghost use Rattle.grammar.specs.Pieces.{shown, postfix};
 
 use crate::bytes::{Next, atom, generator_in, next_part};
 use crate::fault::ReadFault;
-use crate::piece::{Operator, Piece, Pieces};
+use crate::piece::{Operator, Piece};
+use crate::reading::Reading;
 
 // After an opening bracket: the operator and the space behind it.
 fn operator(s: &[u8]) -> Result<(Operator, &[u8]), ReadFault>
@@ -29,15 +30,6 @@ fn leaf_of_atom<'a>(a: &'a [u8]) -> Piece<'a>
     }
 }
 
-fn read_leaf<'a>(s: &'a [u8], pieces: &mut Pieces<'a>) -> Result<&'a [u8], ReadFault>
-    requires { Room pieces.old.items s.now }
-    ensures { Left postfix (read_leaf s.now) (length s.now) pieces.old.items pieces.new.items result }
-{
-    let (a, rest) = atom(s)?;
-    pieces.push(leaf_of_atom(a));
-    Ok(rest)
-}
-
 fn can_end(op: Operator, joined: usize) -> bool
     ensures { result ≡ may_end op joined }
 {
@@ -57,40 +49,47 @@ fn opened(s: &[u8]) -> Option<&[u8]>
     s.strip_prefix(b"(")
 }
 
-// Reads an expression whose brackets nest at most `depth` deep, and adds its instructions to the pieces.
-pub(crate) fn expression<'a>(
-    s: &'a [u8],
-    depth: usize,
-    pieces: &mut Pieces<'a>,
-) -> Result<&'a [u8], ReadFault>
-    requires { Room pieces.old.items s.now }
-    ensures { Left postfix (read_expr depth s.now) (length s.now) pieces.old.items pieces.new.items result }
-{
-    let Some(inner) = opened(s) else {
-        return read_leaf(s, pieces);
-    };
-    if depth == 0 {
-        return Err(ReadFault::DeepBracket);
+impl<'p, 'a> Reading<'p, 'a> {
+    fn leaf(&mut self) -> Result<(), ReadFault>
+        ensures { Left postfix (read_leaf self.old.rest.now) self.old self.new result }
+    {
+        let (a, rest) = atom(self.rest)?;
+        self.keep(leaf_of_atom(a), rest);
+        Ok(())
     }
-    let (op, start) = operator(inner)?;
-    let mut rest = expression(start, depth - 1, pieces)?;
-    let mut joined = 0usize;
-    loop {
-        let (next, after) = next_part(rest)?;
-        match next {
-            Next::End => {
-                if !can_end(op, joined) {
-                    return Err(ReadFault::Misfit);
+
+    // Reads an expression whose brackets nest at most `depth` deep, and adds its instructions to the pieces.
+    pub(crate) fn expression(&mut self, depth: usize) -> Result<(), ReadFault>
+        ensures { Left postfix (read_expr depth self.old.rest.now) self.old self.new result }
+    {
+        let Some(inner) = opened(self.rest) else {
+            return self.leaf();
+        };
+        if depth == 0 {
+            return Err(ReadFault::DeepBracket);
+        }
+        let (op, start) = operator(inner)?;
+        self.rest = start;
+        self.expression(depth - 1)?;
+        let mut joined = 0usize;
+        loop {
+            let (next, after) = next_part(self.rest)?;
+            self.rest = after;
+            match next {
+                Next::End => {
+                    if !can_end(op, joined) {
+                        return Err(ReadFault::Misfit);
+                    }
+                    return Ok(());
                 }
-                return Ok(after);
-            }
-            Next::Part => {
-                if !can_go_on(op, joined) {
-                    return Err(ReadFault::Misfit);
+                Next::Part => {
+                    if !can_go_on(op, joined) {
+                        return Err(ReadFault::Misfit);
+                    }
+                    self.expression(depth - 1)?;
+                    self.pieces.push(Piece::Join(op));
+                    joined += 1;
                 }
-                rest = expression(after, depth - 1, pieces)?;
-                pieces.push(Piece::Join(op));
-                joined += 1;
             }
         }
     }

@@ -3,12 +3,12 @@ ghost use Rattle.std.specs.Prelude.{◌≡◌, ◌≤◌, [], length};
 ghost use Rattle.grammar.specs.FormReader.{read_algebra, read_rel, read_calc, read_any, read_form, Held, Answered};
 
 use crate::bytes::{coefficient, spaced_number, take_bytes};
-use crate::expression::expression;
 use crate::fault::{FormFault, ReadFault};
 use crate::forms::{order, ring};
 use crate::line::Line;
 use crate::piece::Pieces;
-use crate::terms::{Term, parts};
+use crate::reading::Reading;
+use crate::terms::Term;
 
 pub const LINE_LENGTH: usize = 1000;
 
@@ -26,52 +26,49 @@ fn algebra<'p, 'a>(s: &'a [u8]) -> Result<(Line<'p, 'a>, &'a [u8]), ReadFault>
     Ok((Line::Algebra(n, ring, order), rest))
 }
 
-// What stands behind "(rel ".
-fn relation<'p, 'a>(
-    s: &'a [u8],
-    pieces: &'p mut Pieces<'a>,
-) -> Result<(Line<'p, 'a>, &'a [u8]), ReadFault>
-    requires empty { pieces.old.items ≡ [] }
-    requires room { length s.now ≤ 1000 }
-    ensures { Held (read_rel s.now) result }
-{
-    let (j, a) = spaced_number(s)?;
-    let (i, b) = spaced_number(a)?;
-    let (factor, c) = coefficient(b)?;
-    let rest = parts::<Term>(c, pieces)?;
-    Ok((Line::Rel(j, i, factor, pieces.as_slice()), rest))
-}
+impl<'p, 'a> Reading<'p, 'a> {
+    // What stands behind "(rel ".
+    fn relation(mut self) -> Result<(Line<'p, 'a>, &'a [u8]), ReadFault>
+        requires { self.pieces.now.items ≡ [] }
+        ensures { Held (read_rel self.entry.rest.now) result }
+    {
+        let (j, a) = spaced_number(self.rest)?;
+        let (i, b) = spaced_number(a)?;
+        let (factor, c) = coefficient(b)?;
+        self.rest = c;
+        self.parts::<Term>()?;
+        let tail = self.pieces;
+        Ok((Line::Rel(j, i, factor, tail.as_slice()), self.rest))
+    }
 
-// What stands behind "(calc ".
-fn calculation<'p, 'a>(
-    s: &'a [u8],
-    pieces: &'p mut Pieces<'a>,
-) -> Result<(Line<'p, 'a>, &'a [u8]), ReadFault>
-    requires empty { pieces.old.items ≡ [] }
-    requires room { length s.now ≤ 1000 }
-    ensures { Held (read_calc s.now) result }
-{
-    let a = expression(s, NESTING, pieces)?;
-    let rest = take_bytes(a, b")")?;
-    Ok((Line::Calc(pieces.as_slice()), rest))
+    // What stands behind "(calc ".
+    fn calculation(mut self) -> Result<(Line<'p, 'a>, &'a [u8]), ReadFault>
+        requires { self.pieces.now.items ≡ [] }
+        ensures { Held (read_calc self.entry.rest.now) result }
+    {
+        self.expression(NESTING)?;
+        let rest = take_bytes(self.rest, b")")?;
+        let code = self.pieces;
+        Ok((Line::Calc(code.as_slice()), rest))
+    }
 }
 
 fn form<'p, 'a>(
     s: &'a [u8],
     pieces: &'p mut Pieces<'a>,
 ) -> Result<(Line<'p, 'a>, &'a [u8]), ReadFault>
-    requires empty { pieces.old.items ≡ [] }
-    requires room { length s.now ≤ 1000 }
+    requires { length s.now ≤ 1000 }
     ensures { Held (read_any s.now) result }
 {
     if let Ok(inner) = take_bytes(s, b"(algebra ") {
         return algebra(inner);
     }
-    if let Ok(inner) = take_bytes(s, b"(rel ") {
-        return relation(inner, pieces);
+    pieces.clear();
+    if let Ok(rest) = take_bytes(s, b"(rel ") {
+        return Reading { rest, pieces }.relation();
     }
-    if let Ok(inner) = take_bytes(s, b"(calc ") {
-        return calculation(inner, pieces);
+    if let Ok(rest) = take_bytes(s, b"(calc ") {
+        return Reading { rest, pieces }.calculation();
     }
     let rest = take_bytes(s, b"(decide)")?;
     Ok((Line::Decide, rest))
@@ -87,7 +84,6 @@ pub fn read_line<'p, 'a>(
     if line.len() > LINE_LENGTH {
         return Err(FormFault::TooLong);
     }
-    pieces.clear();
     let (read, rest) = form(line, pieces)?;
     if !rest.is_empty() {
         return Err(FormFault::Unreadable);

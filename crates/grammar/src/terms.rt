@@ -1,16 +1,17 @@
 // The reader of the terms of a relation's tail.
 ghost use Rattle.std.specs.Prelude.{◌≡◌, ℕ, List, [], ◌∷◌, length};
 ghost use Rattle.std.specs.List.{flat_map};
-ghost use Rattle.grammar.specs.Reading.{Reads, Room, Left, read_parts, read_generator};
+ghost use Rattle.grammar.specs.Reading.{Reads, Left, read_parts, read_generator};
 ghost use Rattle.grammar.specs.FormReader.{read_term};
 ghost use Rattle.grammar.specs.Forms.{TermForm, one_term};
 ghost use Rattle.grammar.specs.Pieces.{Shown, a_generator};
 
 use crate::bytes::{Next, coefficient, generator, next_part, take_bytes};
 use crate::fault::ReadFault;
-use crate::piece::{Piece, Pieces};
+use crate::piece::Piece;
+use crate::reading::Reading;
 
-// A kind of part of a list, and how one is read into pieces.
+// A kind of part of a list, and how one is read.
 pub(crate) trait Part {
     ghost Value: { Type 0 };
 
@@ -18,25 +19,22 @@ pub(crate) trait Part {
 
     ghost shows: { Value → List Shown };
 
-    fn read<'a>(s: &'a [u8], pieces: &mut Pieces<'a>) -> Result<&'a [u8], ReadFault>
-        requires { Room pieces.old.items s.now }
-        ensures { Left shows (reads s.now) (length s.now) pieces.old.items pieces.new.items result };
+    fn read<'p, 'a>(line: &mut Reading<'p, 'a>) -> Result<(), ReadFault>
+        ensures { Left shows (reads line.old.rest.now) line.old line.new result };
 }
 
-// The parts up to the closing bracket, each behind a space.
-pub(crate) fn parts<'a, P: Part>(
-    s: &'a [u8],
-    pieces: &mut Pieces<'a>,
-) -> Result<&'a [u8], ReadFault>
-    requires { Room pieces.old.items s.now }
-    ensures { Left (flat_map P.shows) (read_parts (length s.now) P.reads [] s.now) (length s.now) pieces.old.items pieces.new.items result }
-{
-    let mut rest = s;
-    loop {
-        let (next, after) = next_part(rest)?;
-        match next {
-            Next::End => return Ok(after),
-            Next::Part => rest = P::read(after, pieces)?,
+impl<'p, 'a> Reading<'p, 'a> {
+    // The parts up to the closing bracket, each behind a space.
+    pub(crate) fn parts<P: Part>(&mut self) -> Result<(), ReadFault>
+        ensures { Left (flat_map P.shows) (read_parts (length self.old.rest.now) P.reads [] self.old.rest.now) self.old self.new result }
+    {
+        loop {
+            let (next, after) = next_part(self.rest)?;
+            self.rest = after;
+            match next {
+                Next::End => return Ok(()),
+                Next::Part => P::read(self)?,
+            }
         }
     }
 }
@@ -50,10 +48,10 @@ impl Part for Generator {
 
     ghost shows = { λ n. a_generator n ∷ [] };
 
-    fn read<'a>(s: &'a [u8], pieces: &mut Pieces<'a>) -> Result<&'a [u8], ReadFault> {
-        let (n, rest) = generator(s)?;
-        pieces.push(Piece::Generator(n));
-        Ok(rest)
+    fn read<'p, 'a>(line: &mut Reading<'p, 'a>) -> Result<(), ReadFault> {
+        let (n, rest) = generator(line.rest)?;
+        line.keep(Piece::Generator(n), rest);
+        Ok(())
     }
 }
 
@@ -67,10 +65,10 @@ impl Part for Term {
 
     ghost shows = { one_term };
 
-    fn read<'a>(s: &'a [u8], pieces: &mut Pieces<'a>) -> Result<&'a [u8], ReadFault> {
-        let inner = take_bytes(s, b"(")?;
-        let (c, after) = coefficient(inner)?;
-        pieces.push(Piece::Coefficient(c));
-        parts::<Generator>(after, pieces)
+    fn read<'p, 'a>(line: &mut Reading<'p, 'a>) -> Result<(), ReadFault> {
+        let inner = take_bytes(line.rest, b"(")?;
+        let (c, rest) = coefficient(inner)?;
+        line.keep(Piece::Coefficient(c), rest);
+        line.parts::<Generator>()
     }
 }

@@ -6,15 +6,15 @@ use Rattle.grammar.specs.Forms.{calc}
 use Rattle.grammar.specs.FormReader.{read_calc}
 use Rattle.grammar.specs.Pieces.{postfix}
 use Rattle.grammar.proofs.Operating.{added_alone}
-use Rattle.grammar.proofs.reader.calculation.Goals as goal
+use Rattle.grammar.proofs.reading.Reading.calculation.Goals as goal
 
 reads : (s a rest : List ℕ) (e : Expr) → read_expr 15 s ≡ Ok (e, a) → Ok rest ≡ expect (codes ")") a → read_calc s ≡ Ok (calc e, rest)
 reads s a rest e h k = rw (h, sym k)
 
 pub returns : goal.returns
 returns c =
-    let h = c.in_ok-a.ensures in (
+    let h = c.in_ok-expression.ensures in (
       calc h.0,
-      reads c.args.s.now c.in_ok-a.a.now c.in_ok-rest.rest.now h.0 h.1 c.in_ok-rest.ensures,
-      (h.0, refl, added_alone _ _ _ (postfix h.0) c.requires.empty h.2 c.as_slice.ensures.value),
+      reads c.args.self.rest.now c.expression.new.self.rest.now c.in_ok-rest.rest.now h.0 h.1 c.in_ok-rest.ensures,
+      (h.0, refl, added_alone _ _ _ (postfix h.0) c.requires h.2 c.as_slice.ensures.value),
     )
