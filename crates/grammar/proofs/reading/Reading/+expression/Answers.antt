@@ -1,5 +1,4 @@
-use Rattle.std.proofs.Common.{◌<◌, true, false, length, sym, refl, ap, ◌∙◌, arith}
-use Rattle.std.proofs.lemmas.Result.{err_from_is_err_and}
+use Rattle.std.proofs.Common.{◌<◌, true, false, length, sym, refl, ap, ◌∙◌, arith, rules}
 use Rattle.grammar.specs.Expressions.{apply, first}
 use Rattle.grammar.specs.Pieces.{postfix}
 use Rattle.grammar.proofs.Nesting.{at_leaf, too_deep, at_open, inner_none, inner_first, inner_goes, next_shrinks, operator_shrinks, going_fault, going_end, going_part, going_stops, going_again}
@@ -13,17 +12,16 @@ returns-then-depth-eq0 t c = too_deep c.args.depth c.args.self.now.rest.now c.in
 
 pub returns-in_err-op : goal.returns-in_err-op
 returns-in_err-op t c =
-    let p = err_from_is_err_and c.from_residual.result c.from_residual.ensures.1 in
     let deep : 0 < c.args.depth = omega arith in
-    rw (p.1, p.2) (at_open c.args.depth c.args.self.now.rest.now c.in-Some.inner.now c.in-Some.ensures deep
-    ∙ inner_none _ c.in-Some.inner.now c.in_err-op.field-0.0 c.in_err-op.ensures)
+    let h = at_open c.args.depth c.args.self.now.rest.now c.in-Some.inner.now c.in-Some.ensures deep ∙ inner_none _ c.in-Some.inner.now c.in_err-op.field-0.0 c.in_err-op.ensures in
+    search rules
 
 pub returns-in_err-expression : goal.returns-in_err-expression
 returns-in_err-expression t c =
-    let p = err_from_is_err_and c.from_residual-in_err-expression.result c.from_residual-in_err-expression.ensures.1 in
     let deep : 0 < c.args.depth = omega arith in
-    rw (p.1, p.2) (at_open c.args.depth c.args.self.now.rest.now c.in-Some.inner.now c.in-Some.ensures deep
-    ∙ inner_first _ c.in-Some.inner.now c.in_ok-op.start.now c.in_ok-op.op c.in_err-expression.field-0.0 c.in_ok-op.ensures c.in_err-expression.ensures)
+    let h = at_open c.args.depth c.args.self.now.rest.now c.in-Some.inner.now c.in-Some.ensures deep
+    ∙ inner_first _ c.in-Some.inner.now c.in_ok-op.start.now c.in_ok-op.op c.in_err-expression.field-0.0 c.in_ok-op.ensures c.in_err-expression.ensures in
+    search rules
 
 pub loop-next-init : goal.loop-next-init
 unfolding postfix
@@ -47,9 +45,7 @@ loop-next-init t c =
     }
 
 pub returns-in_err-next : goal.returns-in_err-next
-returns-in_err-next t c =
-    let p = err_from_is_err_and c.from_residual-in_err-next.result c.from_residual-in_err-next.ensures.1 in
-    rw (p.1, p.2) (going_fault c.loop-next.invariant c.in_err-next.field-0.0 c.in_err-next.ensures)
+returns-in_err-next t c = let h = going_fault c.loop-next.invariant c.in_err-next.field-0.0 c.in_err-next.ensures in search rules
 
 pub returns-then-not-can_end : goal.returns-then-not-can_end
 returns-then-not-can_end t c = going_end c.loop-next.invariant c.in_ok-next.next c.in_ok-next.after.now false c.in-End.is c.in_ok-next.ensures c.if-not-can_end.ensures
@@ -72,8 +68,8 @@ returns-then-not-can_go_on t c = going_part c.loop-next.invariant c.in_ok-next.n
 
 pub returns-in_err-expression-in-Part : goal.returns-in_err-expression-in-Part
 returns-in_err-expression-in-Part t c =
-    let p = err_from_is_err_and c.from_residual-in_err-expression-in-Part.result c.from_residual-in_err-expression-in-Part.ensures.1 in
-    rw (p.1, p.2) (going_stops c.loop-next.invariant c.in_ok-next.next c.in_ok-next.after.now c.in_err-expression-in-Part.field-0.0 c.in-Part.is c.in_ok-next.ensures c.if-not-can_go_on.ensures c.in_err-expression-in-Part.ensures)
+    let h = going_stops c.loop-next.invariant c.in_ok-next.next c.in_ok-next.after.now c.in_err-expression-in-Part.field-0.0 c.in-Part.is c.in_ok-next.ensures c.if-not-can_go_on.ensures c.in_err-expression-in-Part.ensures in
+    search rules
 
 pub loop-next-smaller : goal.loop-next-smaller
 loop-next-smaller t c =

@@ -1,19 +1,17 @@
-use Rattle.std.proofs.lemmas.Result.{err_from_is_err_and}
+use Rattle.std.proofs.Common.{rules}
 use Rattle.grammar.proofs.Parts.{listing_fault, listing_end, listing_stops, listing_again}
 use Rattle.grammar.proofs.reading.Reading.parts.Goals as goal
 
 pub returns-in_err-next : goal.returns-in_err-next
-returns-in_err-next g c =
-    let p = err_from_is_err_and c.from_residual.result c.from_residual.ensures.1 in
-    rw (p.1, p.2) (listing_fault c.loop-next.invariant c.in_err-next.field-0.0 c.in_err-next.ensures)
+returns-in_err-next g c = let h = listing_fault c.loop-next.invariant c.in_err-next.field-0.0 c.in_err-next.ensures in search rules
 
 pub returns-in-End : goal.returns-in-End
 returns-in-End g c = listing_end c.loop-next.invariant c.in_ok-next.next c.in_ok-next.after.now c.in-End.is c.in_ok-next.ensures
 
 pub returns-in_err-read-in-Part : goal.returns-in_err-read-in-Part
 returns-in_err-read-in-Part g c =
-    let p = err_from_is_err_and c.from_residual-in_err-read-in-Part.result c.from_residual-in_err-read-in-Part.ensures.1 in
-    rw (p.1, p.2) (listing_stops c.loop-next.invariant c.in_ok-next.next c.in_ok-next.after.now c.in_err-read-in-Part.field-0.0 c.in-Part.is c.in_ok-next.ensures c.in_err-read-in-Part.ensures)
+    let h = listing_stops c.loop-next.invariant c.in_ok-next.next c.in_ok-next.after.now c.in_err-read-in-Part.field-0.0 c.in-Part.is c.in_ok-next.ensures c.in_err-read-in-Part.ensures in
+    search rules
 
 pub loop-next-preserved : goal.loop-next-preserved
 loop-next-preserved g c =
