@@ -10,23 +10,23 @@ use Rattle.grammar.proofs.Operating.{atom_shrinks}
 -- an answer of a chain has answers at its links
 pub linked : {X Y : Type 0} (r : Result X ReadFault) (f : X → Result Y ReadFault) (y : Y) → and_then r f ≡ Ok y → (x : X) × (r ≡ Ok x) × (f x ≡ Ok y)
 linked (Ok x) f y h = (x, refl, h)
-linked {X} {Y} (Err e) f y h = let z : ◌≡◌ {A = ℕ} 0 1 = cc in absurd (omega arith)
+linked {X} {Y} (Err e) f y h = absurd (cc)
 
 pub chosen : {Y : Type 0} (b : Bool) (r : Result Y ReadFault) (y : Y) → cond b r (Err Misfit) ≡ Ok y → (b ≡ true) × (r ≡ Ok y)
 chosen true r y h = (refl, h)
-chosen false r y h = let z : ◌≡◌ {A = ℕ} 0 1 = cc in absurd (omega arith)
+chosen false r y h = absurd (cc)
 
 pub formed_is : {X : Type 0} (o : Option X) (r rest : List ℕ) (x : X) → formed o r ≡ Ok (x, rest) → (o ≡ Some x) × (r ≡ rest)
 formed_is {X} (Some y) r rest x h = let q : ◌≡◌ {A = X × List ℕ} (y, r) (x, rest) = cc in (ap (λ (p : X × List ℕ). Some p.0) q, ap (λ (p : X × List ℕ). p.1) q)
-formed_is {X} None r rest x h = let z : ◌≡◌ {A = ℕ} 0 1 = cc in absurd (omega arith)
+formed_is {X} None r rest x h = absurd (cc)
 
 pub unless_is : (o : Option ℕ) (a r x rest : List ℕ) → unless_generator o a r ≡ Ok (x, rest) → (o ≡ None) × (a ≡ x) × (r ≡ rest)
-unless_is (Some n) a r x rest h = let z : ◌≡◌ {A = ℕ} 0 1 = cc in absurd (omega arith)
+unless_is (Some n) a r x rest h = absurd (cc)
 unless_is None a r x rest h = let q : ◌≡◌ {A = List ℕ × List ℕ} (a, r) (x, rest) = cc in (refl, ap (λ (p : List ℕ × List ℕ). p.0) q, ap (λ (p : List ℕ × List ℕ). p.1) q)
 
 pub expect-written : (w bs rest : List ℕ) → expect w bs ≡ Ok rest → bs ≡ w ++ rest
 expect-written [] bs rest h = cc
-expect-written (c ∷ w) [] rest h = let z : ◌≡◌ {A = ℕ} 0 1 = cc in absurd (omega arith)
+expect-written (c ∷ w) [] rest h = absurd (cc)
 expect-written (c ∷ w) (b ∷ bs) rest h = let k = chosen (eqb b c) (expect w bs) rest h in let i = expect-written w bs rest k.1 in grind (arith, nat_tests)
 
 pub expect_shrinks : (w bs rest : List ℕ) → Ok rest ≡ expect w bs → length rest + length w ≡ length bs

@@ -34,15 +34,15 @@ at_open zero bs r e h = absurd (omega arith)
 at_open (suc d) bs r e h = let z : d ≡ suc d - 1 = omega arith in rw e (ap (λ k. read_inner (λ l. read_expr k l) r) z)
 
 spaced_shrinks : (o p : Operator) (bs rest : List ℕ) → Ok (p, rest) ≡ spaced o bs → length rest + 1 ≤ length bs
-spaced_shrinks o p [] rest h = let z : ◌≡◌ {A = ℕ} 0 1 = cc in absurd (omega arith)
+spaced_shrinks o p [] rest h = absurd (cc)
 spaced_shrinks o p (b ∷ bs) rest h = grind (arith, nat_tests)
 
 pub operator_shrinks : (o : Operator) (bs rest : List ℕ) → Ok (o, rest) ≡ read_operator bs → length rest + 1 ≤ length bs
-operator_shrinks o [] rest h = let z : ◌≡◌ {A = ℕ} 0 1 = cc in absurd (omega arith)
+operator_shrinks o [] rest h = absurd (cc)
 operator_shrinks o (b ∷ bs) rest h = let s = spaced_shrinks Sum o bs rest in let p = spaced_shrinks Product o bs rest in let d = spaced_shrinks Difference o bs rest in grind (arith, nat_tests)
 
 pub next_shrinks : (x : Next) (bs rest : List ℕ) → Ok (x, rest) ≡ read_next bs → length rest + 1 ≡ length bs
-next_shrinks x [] rest h = let z : ◌≡◌ {A = ℕ} 0 1 = cc in absurd (omega arith)
+next_shrinks x [] rest h = absurd (cc)
 next_shrinks x (b ∷ bs) rest h = grind (arith, nat_tests)
 
 pub inner_none : (R : List ℕ → Reads Expr) (bs : List ℕ) (x : ReadFault) → Err x ≡ read_operator bs → read_inner R bs ≡ Err x
