@@ -1,6 +1,8 @@
 -- Numbers, generators and coefficients: exactly what is written is read.
 use Rattle.std.proofs.Common.{◌≡◌, ℕ, ◌+◌, ◌<◌, Bool, true, false, cond, eqb, List, [], ◌∷◌, ◌++◌, length, take, drop, Some, None, Ok, Err, decimal, Option, Result, sym, refl, ap, ◌∙◌, subst, one-add, arith}
-use Rattle.std.specs.Str.{all_ascii_digits}
+use Rattle.std.specs.Str.Parse.{AllDigits}
+use Rattle.std.proofs.lemmas.Fmt.{decimal_is_IsNumeral, decimal_nonempty}
+use Rattle.std.proofs.lemmas.Str.Parse.{digit_from_value}
 use Rattle.std.proofs.lemmas.Bool.Decides.{nat_tests}
 use Rattle.std.proofs.lemmas.List.{take_at, drop_at, take-append-drop, length-take-le}
 use Rattle.grammar.specs.declared.fault.ReadFault.{ReadFault}
@@ -9,7 +11,7 @@ use Rattle.grammar.specs.Reading.{Reads, and_then, breaks, atom_length, formed, 
 use Rattle.grammar.specs.Grammar.{write_generator, plain, Number, Coefficient}
 use Rattle.grammar.proofs.Operating.{atom_length_le}
 use Rattle.grammar.proofs.Chains.{linked, formed_is, unless_is}
-use Rattle.grammar.proofs.Numbers.{number_writes, number-written, number-below, decimal_digits, decimal_nonempty}
+use Rattle.grammar.proofs.Numbers.{number_writes, number-written, number-below}
 
 -- the end of the line, a space or a bracket
 abbrev pub Ends : List ℕ → Type 0
@@ -91,12 +93,12 @@ atom_sound bs a rest h = go (eqb (atom_length bs) 0) refl h
         let q : ◌≡◌ {A = Two} (take (atom_length bs) bs, drop (atom_length bs) bs) (a, rest) = cc in
         subst (λ (p : Two). Atom bs p.0 p.1) q (atom_taken bs k)
 
-digits-plain : (ds : List ℕ) → all_ascii_digits ds ≡ true → plain ds ≡ true
+digits-plain : (ds : List ℕ) → AllDigits 10 ds → plain ds ≡ true
 digits-plain [] h = refl
-digits-plain (d ∷ ds) h = let i = digits-plain ds in grind (arith, nat_tests)
+digits-plain (d ∷ ds) h = let r = digit_from_value d h.0 in let i = digits-plain ds h.1 in grind (arith, nat_tests)
 
 pub decimal_plain : (n : ℕ) → Number n → plain (decimal n) ≡ true
-decimal_plain n h = digits-plain (decimal n) (decimal_digits n h)
+decimal_plain n h = digits-plain (decimal n) (decimal_is_IsNumeral n (omega arith)).0.1
 
 -- a value that an atom may stand for: its writing is an atom, and the only one that stands for it
 module _ {X : Type 0} (of : List ℕ → Option X) (W : X → List ℕ) (P : X → Type 0)
@@ -114,7 +116,7 @@ module _ {X : Type 0} (of : List ℕ → Option X) (W : X → List ℕ) (P : X �
   }
 
 pub number_exact : Exact read_number decimal Number
-number_exact = formed_exact number_of decimal Number decimal_plain decimal_nonempty number_writes (λ a n h. (number-written a n h, number-below a n h))
+number_exact = formed_exact number_of decimal Number decimal_plain (λ n h. decimal_nonempty n (omega arith)) number_writes (λ a n h. (number-written a n h, number-below a n h))
 
 pub generator-written : (a : List ℕ) (n : ℕ) → generator_of a ≡ Some n → (write_generator n ≡ a) × Number n
 generator-written [] n h = absurd (cc)
