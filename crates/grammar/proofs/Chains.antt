@@ -10,7 +10,7 @@ use Rattle.grammar.proofs.Operating.{atom_shrinks}
 -- an answer of a chain has answers at its links
 pub linked : {X Y : Type 0} (r : Result X ReadFault) (f : X → Result Y ReadFault) (y : Y) → and_then r f ≡ Ok y → (x : X) × (r ≡ Ok x) × (f x ≡ Ok y)
 linked (Ok x) f y h = (x, refl, h)
-linked {X} {Y} (Err e) f y h = absurd (cc)
+linked (Err e) f y h = absurd (cc)
 
 pub chosen : {Y : Type 0} (b : Bool) (r : Result Y ReadFault) (y : Y) → cond b r (Err Misfit) ≡ Ok y → (b ≡ true) × (r ≡ Ok y)
 chosen true r y h = (refl, h)
@@ -18,7 +18,7 @@ chosen false r y h = absurd (cc)
 
 pub formed_is : {X : Type 0} (o : Option X) (r rest : List ℕ) (x : X) → formed o r ≡ Ok (x, rest) → (o ≡ Some x) × (r ≡ rest)
 formed_is {X} (Some y) r rest x h = let q : ◌≡◌ {A = X × List ℕ} (y, r) (x, rest) = cc in (ap (λ (p : X × List ℕ). Some p.0) q, ap (λ (p : X × List ℕ). p.1) q)
-formed_is {X} None r rest x h = absurd (cc)
+formed_is None r rest x h = absurd (cc)
 
 pub unless_is : (o : Option ℕ) (a r x rest : List ℕ) → unless_generator o a r ≡ Ok (x, rest) → (o ≡ None) × (a ≡ x) × (r ≡ rest)
 unless_is (Some n) a r x rest h = absurd (cc)

@@ -21,7 +21,7 @@ ways : (bs : List ℕ) → ((length bs ≤ 1000) × (read_form bs ≡ whole (rea
 ways bs = ⊎_elim (λ w. inl (w.1, short bs w.1)) (λ w. inr (w.1, long bs w.1)) (leb_tells (length bs) 1000)
 
 whole_ok : (r : Reads Form) (f : Form) → whole r ≡ Ok f → r ≡ Ok (f, [])
-whole_ok (Ok (g, [])) f h = let i : g ≡ f = cc in ap (λ (x : Form). Ok (x, [])) i
+whole_ok (Ok (g, [])) f h = cc
 whole_ok (Ok (g, b ∷ bs)) f h = absurd (cc)
 whole_ok (Err e) f h = absurd (cc)
 

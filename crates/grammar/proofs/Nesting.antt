@@ -56,7 +56,7 @@ inner_goes R bs r rest o e h f = rw (sym h, f)
 
 pub more_none : (n : ℕ) (R : List ℕ → Reads Expr) (os : Operands) (bs : List ℕ) (x : ReadFault) → length bs ≤ n → Err x ≡ read_next bs → read_more n R os bs ≡ Err x
 unfolding read_more
-more_none zero R os [] x h e = let i : x ≡ Misfit = cc in ap (λ (y : ReadFault). Err y) (sym i)
+more_none zero R os [] x h e = cc
 more_none zero R os (b ∷ bs) x h e = absurd (omega arith)
 more_none (suc n) R os bs x h e = rw (sym e)
 

@@ -15,7 +15,7 @@ use Rattle.grammar.proofs.Operating.{added_on}
 module _ {X : Type 0} (R : List ℕ → Reads X) (xs : List X) where
   pub parts_none : (n : ℕ) (bs : List ℕ) (x : ReadFault) → length bs ≤ n → Err x ≡ read_next bs → read_parts n R xs bs ≡ Err x
   unfolding read_parts
-  parts_none zero [] x h e = let i : x ≡ Misfit = cc in ap (λ (y : ReadFault). Err y) (sym i)
+  parts_none zero [] x h e = cc
   parts_none zero (b ∷ bs) x h e = absurd (omega arith)
   parts_none (suc n) bs x h e = rw (sym e)
 

@@ -203,7 +203,7 @@ module _ (R : List ℕ → Reads Expr) (d : ℕ) (S : Sound R d) where
 
 pub expr_sound : (d : ℕ) → Sound (read_expr d) d
 unfolding read_expr
-expr_sound zero bs e rest h = ⊎_elim (λ w. let z : ◌≡◌ {A = ℕ} 0 1 = cc w.2 in absurd (omega arith)) (leaf-sound 0 bs e rest) (open_ways bs (λ _. Err DeepBracket) (read_leaf bs) (Ok (e, rest)) h)
+expr_sound zero bs e rest h = ⊎_elim (λ w. absurd (cc w.2)) (leaf-sound 0 bs e rest) (open_ways bs (λ _. Err DeepBracket) (read_leaf bs) (Ok (e, rest)) h)
 expr_sound (suc d) bs e rest h =
     ⊎_elim (λ w. let s = inner_sound (λ l. read_expr d l) d (expr_sound d) w.0 e rest w.2 in (w.1 ∙ s.0, s.1)) (leaf-sound (suc d) bs e rest)
     (open_ways bs (λ r. read_inner (λ l. read_expr d l) r) (read_leaf bs) (Ok (e, rest)) h)
