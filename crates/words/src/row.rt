@@ -56,9 +56,12 @@ pub fn row_inversions(row: &Row) -> usize
 pub fn row_leftmost_inversion(row: &Row) -> Option<usize>
     ensures { result ≡ leftmost_inversion (letters row.now) }
 {
+    if !is_letter(row[0]) {
+        return None;
+    }
     row.iter()
         .zip(row[1..].iter())
-        .take_while(|(x, y)| is_letter(**x) && is_letter(**y))
+        .take_while(|(_, y)| is_letter(**y))
         .position(|(x, y)| x > y)
 }
 
