@@ -1,5 +1,5 @@
 // How weights are made, and what their refusal says.
-ghost use Rattle.std.specs.Prelude.{◌≡◌};
+ghost use Rattle.std.specs.Prelude.{◌≡◌, ◌*◌, ◌≤◌};
 ghost use Rattle.orders.specs.Weights.{Weighs, refusal_of};
 
 use crate::weight::{Weight, WeightOutOfRange};
@@ -23,6 +23,14 @@ impl Weight {
         ensures { result ≡ self.now.value }
     {
         self.value
+    }
+
+    // So many times the weight.
+    pub(crate) fn times(&self, count: u8) -> u32
+        ensures value { result ≡ self.now.value * count }
+        ensures bound { result ≤ 65025 }
+    {
+        u32::from(self.value) * u32::from(count)
     }
 }
 

@@ -15,7 +15,7 @@ use crate::row::{
 };
 use crate::word::{Word, WordFault};
 use orders::image::Image;
-use orders::letter::{LETTERS, ROW_LENGTH, Row, is_letter};
+use orders::letter::{Letter, ROW_LENGTH, Row, is_letter};
 use orders::order::MonomialOrder;
 use refusals::Refusal;
 use std::cmp::Ordering;
@@ -35,16 +35,7 @@ impl From<WordFault> for Refusal {
 fn holds_word(row: &Row) -> bool
     ensures { result ≡ is_row row.now }
 {
-    let mut ended = false;
-    for x in row {
-        if ended || !is_letter(*x) {
-            if *x != 0 {
-                return false;
-            }
-            ended = true;
-        }
-    }
-    true
+    row.iter().skip_while(|x| is_letter(**x)).all(|x| *x == 0)
 }
 
 impl TryFrom<Row> for Word {
@@ -71,18 +62,17 @@ impl Word {
     }
 
     // One letter more at the end; a refusal leaves the word as it was.
+    #[tactic(auto, using(crate::proofs::Filling::row_push, crate::proofs::Filling::letters_push))]
     pub fn push(&mut self, letter: u64) -> Result<(), WordFault>
         ensures answer { result ≡ answer (grown (spelled self.old) letter) }
         ensures after { spelled self.new ≡ value_or (spelled self.old) (grown (spelled self.old) letter) }
     {
-        if letter == 0 || letter > LETTERS as u64 {
-            return Err(WordFault::BadLetter);
-        }
+        let letter = Letter::new(letter).ok_or(WordFault::BadLetter)?;
         let n = self.len();
         if n >= ROW_LENGTH {
             return Err(WordFault::TooLong);
         }
-        self.row[n] = letter as u8;
+        self.row[n] = letter.number();
         Ok(())
     }
 
