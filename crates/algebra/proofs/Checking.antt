@@ -90,28 +90,30 @@ module _ (m : Coding) (n : ℕ) (v : Verdict) (c : Calculation) where
       at (Ok u) (Ok w) (Err f) = refl
       at (Ok u) (Ok w) (Ok z) = refl
 
+-- a fault that is placed in a list
+placed-at : (g : CallCause → AlgebraFault) (r : Result (Unit {0}) CallCause) (s : Result (Unit {0}) AlgebraFault) {Q : CallCause → AlgebraFault → Type 0}
+    → MatchResult r (λ x. s ≡ Ok x) (λ e. IsErrAnd s (Q e)) → ((e : CallCause) (f : AlgebraFault) → Q e f → f ≡ g e) → placed g r ≡ s
+placed-at g (Ok x) s h q = sym h
+placed-at g (Err e) (Ok x) h q = absurd h
+placed-at g (Err e) (Err f) h q = ap Err (sym (q e f h))
+
 -- the scan of a list from place p on
 module _ (at : ℕ → CallCause → AlgebraFault) (m : Coding) (n : ℕ) (ts : List Term) where
   abbrev pub scan_from : ℕ → Result (Unit {0}) AlgebraFault
   scan_from p = scan at m n (p + 1) (drop p ts) passed
 
-  -- one term more: where r comes of it, the rest follows
-  pub scan-more : (p : ℕ) (r : Result (Unit {0}) AlgebraFault) → p < length ts → r ≡ check_term (at (p + 1)) m n (get_or ts p nil_term) passed
-      → then_do r (λ _. scan_from (p + 1)) ≡ scan_from p
-  scan-more p r h e =
-      ap (λ x. then_do x (λ _. scan_from (p + 1))) e
+  -- one term more: where s is the answer r of its checks, in its list, the rest follows
+  pub scan-more : (p : ℕ) (r : Result (Unit {0}) CallCause) (s : Result (Unit {0}) AlgebraFault) {Q : CallCause → AlgebraFault → Type 0} → p < length ts
+      → placed (at (p + 1)) r ≡ check_term (at (p + 1)) m n (get_or ts p nil_term) passed
+      → MatchResult r (λ x. s ≡ Ok x) (λ e. IsErrAnd s (Q e)) → ((e : CallCause) (f : AlgebraFault) → Q e f → f ≡ at (p + 1) e)
+      → then_do s (λ _. scan_from (p + 1)) ≡ scan_from p
+  scan-more p r s h e cases q =
+      ap (λ x. then_do x (λ _. scan_from (p + 1))) (sym (placed-at (at (p + 1)) r s cases q) ∙ e)
       ∙ sym (term_through (at (p + 1)) m n (get_or ts p nil_term) (scan_from (p + 1)))
       ∙ sym (ap (λ l. scan at m n (p + 1) l passed) (drop_more ts p nil_term h))
 
   pub scan-all : (p : ℕ) → length ts ≤ p → passed ≡ scan_from p
   scan-all p h = sym (ap (λ l. scan at m n (p + 1) l passed) (drop_all p ts h))
-
--- a fault that is placed in a list
-pub placed-at : (g : CallCause → AlgebraFault) (r : Result (Unit {0}) CallCause) (s : Result (Unit {0}) AlgebraFault) {Q : CallCause → AlgebraFault → Type 0}
-    → MatchResult r (λ x. s ≡ Ok x) (λ e. IsErrAnd s (Q e)) → ((e : CallCause) (f : AlgebraFault) → Q e f → f ≡ g e) → placed g r ≡ s
-placed-at g (Ok x) s h q = sym h
-placed-at g (Err e) (Ok x) h q = absurd h
-placed-at g (Err e) (Err f) h q = ap Err (sym (q e f h))
 
 -- the checks of three generators come first, then the rest
 triple_through : {A : Type 0} (n i j k : ℕ) (r : Result A AlgebraFault) → check_triple n i j k r ≡ then_do (check_triple n i j k passed) (λ _. r)
