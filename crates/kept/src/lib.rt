@@ -4,4 +4,5 @@
 pub mod edits;
 pub mod fault;
 pub mod insert;
+pub mod list;
 pub mod search;

@@ -4,5 +4,5 @@ pub mod Entering
 pub mod Loading
 pub mod Stepping
 pub mod Running
-pub mod Calling
 pub mod Making
+pub mod Calling
