@@ -45,7 +45,7 @@ impl<R: Ring, O: MonomialOrder> Rules<R, O> {
                 });
             }
             steps += 1;
-            self.step(&t, steps, list, done)?;
+            self.step(t, steps, list, done)?;
         }
         Ok(steps)
     }

@@ -74,19 +74,19 @@ impl<R: Ring, O: MonomialOrder> Rules<R, O> {
     // Step n: t was the greatest term of the work list.
     pub(crate) fn step(
         &self,
-        t: &Term,
+        t: Term,
         n: u64,
         list: &mut KeptList<O>,
         done: &mut Done,
     ) -> Result<(), RunFault>
-        ensures { Stepped (step_of (R.model self.now.ring) (O.model list.old.order.now) self.now.table (places list.old) (room done.old) n t.now (items list.old) (terms done.old)) list.old done.old list.new done.new result }
+        ensures { Stepped (step_of (R.model self.now.ring) (O.model list.old.order.now) self.now.table (places list.old) (room done.old) n t (items list.old) (terms done.old)) list.old done.old list.new done.new result }
     {
         match row_leftmost_inversion(&t.row) {
-            None => done.push(*t).map_err(|cause| RunFault {
+            None => done.push(t).map_err(|cause| RunFault {
                 cause,
                 place: Place::at_step(n),
             }),
-            Some(k) => self.rewrite(t, k, n, list),
+            Some(k) => self.rewrite(&t, k, n, list),
         }
     }
 }

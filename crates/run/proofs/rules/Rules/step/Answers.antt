@@ -5,16 +5,16 @@ use Rattle.run.proofs.Stepping.{within, placed, stepped_done, stepped_on}
 use Rattle.run.proofs.rules.Rules.step.Goals as goal
 
 pub rewrite-requires : goal.rewrite-requires
-rewrite-requires g c = within (letters c.args.t.now.row) (Some c.in-Some.k) c.in-Some.ensures
+rewrite-requires g c = within (letters c.args.t.row) (Some c.in-Some.k) c.in-Some.ensures
 
 pub returns-in-None : goal.returns-in-None
 returns-in-None g c =
     let m = g.R.Ring.model c.args.self.now.ring in
     let e = placed (at_step c.args.n) c.push.result c.map_err.result (λ e y h. search rules) c.map_err.ensures.cases in
     rw e
-    (stepped_done g.O.MonomialOrder.model m c.args.self.now.table c.args.n c.args.t.now c.args.list.now c.args.done.now c.push.new.self c.push.result c.in-None.ensures c.push.ensures.same c.push.ensures.answer)
+    (stepped_done g.O.MonomialOrder.model m c.args.self.now.table c.args.n c.args.t c.args.list.now c.args.done.now c.push.new.self c.push.result c.in-None.ensures c.push.ensures.same c.push.ensures.answer)
 
 pub returns-in-Some : goal.returns-in-Some
 returns-in-Some g c =
     let m = g.R.Ring.model c.args.self.now.ring in
-    stepped_on g.O.MonomialOrder.model m c.args.self.now.table c.args.n c.args.t.now c.args.list.now c.args.done.now c.rewrite.new.list c.rewrite.result c.in-Some.k c.in-Some.ensures c.rewrite.ensures
+    stepped_on g.O.MonomialOrder.model m c.args.self.now.table c.args.n c.args.t c.args.list.now c.args.done.now c.rewrite.new.list c.rewrite.result c.in-Some.k c.in-Some.ensures c.rewrite.ensures
