@@ -4,9 +4,8 @@
 use integers::integers::Integers;
 use orders::degree::Degree;
 use orders::weight::Weight;
-use run::calls::Calculation;
+use run::calls::normalise;
 use run::relation::{Relation, Table};
-use run::rules::Rules;
 use words::term::Term;
 use words::word::Word;
 
@@ -58,7 +57,8 @@ fn algebra(which: u32) -> Option<Table> {
 
 // The steps of one run times 10,000 and the number of its terms, 9,999 where it was refused.
 fn repeated(
-    rules: &Rules<Integers, Degree>,
+    order: &Degree,
+    table: &Table,
     list: &[Term],
     work: &mut [Term],
     out: &mut [Term],
@@ -66,7 +66,7 @@ fn repeated(
 ) -> u64 {
     let mut answer = 0u64;
     for _ in 0..times {
-        answer = match rules.calculate(&Calculation::Normalise(list), work, out) {
+        answer = match normalise(&Integers, order, table, list, work, out) {
             Ok((count, steps)) => steps.saturating_mul(10000).saturating_add(count as u64),
             Err(fault) => fault.place.step.saturating_mul(10000).saturating_add(9999),
         };
@@ -76,7 +76,7 @@ fn repeated(
 
 // Normalises a word with coefficient 1 so many times.
 pub fn normalise_many(which: u32, letters: &[u8], times: u64) -> u64 {
-    let Ok(one) = Weight::try_from(1) else {
+    let Ok(one) = Weight::new(1) else {
         return 0;
     };
     let Some(table) = algebra(which) else {
@@ -85,13 +85,9 @@ pub fn normalise_many(which: u32, letters: &[u8], times: u64) -> u64 {
     let list = [term(letters, ONE)];
     let mut work = [Term::blank(); 512];
     let mut out = [Term::blank(); 512];
-    let rules = Rules {
-        ring: Integers,
-        order: Degree::new([one; 8]),
-        table,
-    };
     repeated(
-        &rules,
+        &Degree::new([one; 8]),
+        &table,
         &list,
         &mut work,
         &mut out,

@@ -26,9 +26,9 @@ module _ {O : Type 0} {k : _} where
     pub places : length after.memory.now ≡ length before.memory.now
 
   -- the list `want`, or its refusal; blank places before the list stay blank, and a refusal changes nothing
-  abbrev pub Inserted : Listed → KeptList O k → KeptList O k → Result (Unit {0}) KeptFault → Type 0
-  Inserted want before after (Ok u) = (Ok (items after) ≡ want) × (BlankBefore before → BlankBefore after)
-  Inserted want before after (Err e) = (want ≡ Err e) × (after.memory.now ≡ before.memory.now) × (after.start ≡ before.start)
+  abbrev pub Changed : Listed → KeptList O k → KeptList O k → Result (Unit {0}) KeptFault → Type 0
+  Changed want before after (Ok u) = (Ok (items after) ≡ want) × (BlankBefore before → BlankBefore after)
+  Changed want before after (Err e) = (want ≡ Err e) × (after.memory.now ≡ before.memory.now) × (after.start ≡ before.start)
 
   -- the first term, which is gone then, and its place blank; no term of an empty list
   abbrev pub Taken : KeptList O k → KeptList O k → Option Term → Type 0

@@ -1,17 +1,17 @@
 -- Laws of a whole calculation.
-use Rattle.std.proofs.Common.{◌≡◌, ℕ, ◌-◌, ◌≤◌, List, [], length, take, drop, Ok, Err, Result, sym, ap, ◌∙◌, arith}
+use Rattle.std.proofs.Common.{◌≡◌, ℕ, List, [], length, Ok, Err, Result, sym, ap, ◌∙◌, arith}
 use native.Mathlib.Nat.{sub-zero}
 use Rattle.std.proofs.lemmas.List.{drop_all, take_all, length-drop}
 use Rattle.coefficients.specs.Coding.{Coding}
 use Rattle.orders.specs.Models.{OrderModel}
 use Rattle.words.specs.declared.term.Term.{Term}
-use Rattle.kept.specs.Lists.{items, places, BlankBefore}
+use Rattle.kept.specs.Lists.{items, places}
 use Rattle.kept.specs.Terms.{blanks}
 use Rattle.kept.specs.declared.list.KeptList.{KeptList}
 use Rattle.run.specs.declared.done.Done.{Done}
 use Rattle.run.specs.declared.fault.RunFault.{RunFault}
 use Rattle.run.specs.declared.relation.Relation.{Relation}
-use Rattle.run.specs.Calls.{calculate, step_limit, Memory}
+use Rattle.run.specs.Calls.{calculate, step_limit}
 use Rattle.run.specs.Dones.{terms, room}
 use Rattle.run.specs.Entries.{Entry, load, then_do}
 use Rattle.run.specs.Post.{Left, Ran, Calculated}

@@ -1,5 +1,4 @@
 pub mod Splice
-pub mod Falling
 pub mod Entering
 pub mod Loading
 pub mod Stepping

@@ -9,7 +9,7 @@ use Rattle.words.specs.Inversions.{leftmost_inversion}
 use Rattle.words.specs.Terms.{blank}
 use Rattle.words.specs.declared.term.Term.{Term}
 use Rattle.words.proofs.Rising.{standard-words}
-use Rattle.kept.specs.Lists.{items, places, SameMemory}
+use Rattle.kept.specs.Lists.{items, places}
 use Rattle.kept.specs.Terms.{blanks}
 use Rattle.kept.specs.declared.list.KeptList.{KeptList}
 use Rattle.run.specs.declared.done.Done.{Done}

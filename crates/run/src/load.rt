@@ -33,11 +33,7 @@ impl<R: Ring, O: MonomialOrder> Rules<R, O> {
     }
 
     // The first list, as it is.
-    pub(crate) fn load_first(
-        &self,
-        terms: &[Term],
-        list: &mut KeptList<O>,
-    ) -> Result<(), RunFault>
+    pub(crate) fn load_first(&self, terms: &[Term], list: &mut KeptList<O>) -> Result<(), RunFault>
         ensures { Left (load (R.model self.now.ring) (O.model list.old.order.now) (places list.old) (first_entries 1 terms.now) (items list.old)) list.old list.new result }
     {
         self.load_each(
@@ -56,11 +52,7 @@ impl<R: Ring, O: MonomialOrder> Rules<R, O> {
     }
 
     // The second list, as it is.
-    pub(crate) fn load_second(
-        &self,
-        terms: &[Term],
-        list: &mut KeptList<O>,
-    ) -> Result<(), RunFault>
+    pub(crate) fn load_second(&self, terms: &[Term], list: &mut KeptList<O>) -> Result<(), RunFault>
         ensures { Left (load (R.model self.now.ring) (O.model list.old.order.now) (places list.old) (second_entries 1 terms.now) (items list.old)) list.old list.new result }
     {
         self.load_each(

@@ -49,13 +49,7 @@ impl<R: Ring, O: MonomialOrder> Rules<R, O> {
     }
 
     // Inserts what the letters of t at k and k + 1 give by their relation in step n: the exchange, then the tail.
-    fn rewrite(
-        &self,
-        t: &Term,
-        k: usize,
-        n: u64,
-        list: &mut KeptList<O>,
-    ) -> Result<(), RunFault>
+    fn rewrite(&self, t: &Term, k: usize, n: u64, list: &mut KeptList<O>) -> Result<(), RunFault>
         requires { k + 2 ≤ length (letters t.now.row) }
         ensures { Left (load (R.model self.now.ring) (O.model list.old.order.now) (places list.old) (entries_at (R.model self.now.ring) self.now.table n (letters t.now.row) k t.now.code) (items list.old)) list.old list.new result }
     {

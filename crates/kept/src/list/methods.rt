@@ -1,7 +1,7 @@
 // How a kept list is made and changed.
 ghost use Rattle.std.specs.Prelude.{◌≡◌, length};
 ghost use Rattle.kept.specs.Kept.{insert as insertion};
-ghost use Rattle.kept.specs.Lists.{items, SameMemory, Inserted, Taken};
+ghost use Rattle.kept.specs.Lists.{items, SameMemory, Changed, Taken};
 
 use crate::edits::take_first;
 use crate::fault::KeptFault;
@@ -30,7 +30,7 @@ impl<'a, O: MonomialOrder> KeptList<'a, O> {
     // Inserts a term.
     pub fn insert<R: Ring>(&mut self, ring: &R, t: Term) -> Result<(), KeptFault>
         ensures same { SameMemory self.old self.new }
-        ensures answer { Inserted (insertion (R.model ring.now) (O.model self.old.order.now) self.old.start t (items self.old)) self.old self.new result }
+        ensures answer { Changed (insertion (R.model ring.now) (O.model self.old.order.now) self.old.start t (items self.old)) self.old self.new result }
     {
         self.start = insert(ring, self.order, self.memory, self.start, t)?;
         Ok(())
