@@ -121,36 +121,36 @@ module _ (m : Coding) (o : OrderModel) (work result : ℕ) (table : List Relatio
     (w : Result Bool DecideFault)
     (told : w ≡ vanishing (record { i = t.i.number; j = t.j.number; k = t.k.number }) (overlap_run m o (record { work = work'; result = result' }) table t.i.number t.j.number t.k.number))
   where
-  abbrev over : List Triple → Result Verdict DecideFault
-  over = decide_over m o (record { work = work; result = result }) table
+    abbrev over : List Triple → Result Verdict DecideFault
+    over = decide_over m o (record { work = work; result = result }) table
 
-  abbrev rest : Result Verdict DecideFault
-  rest = over (from_third n i j (k + 1))
+    abbrev rest : Result Verdict DecideFault
+    rest = over (from_third n i j (k + 1))
 
-  abbrev x : Triple
-  x = record { i = i; j = j; k = k }
+    abbrev x : Triple
+    x = record { i = i; j = j; k = k }
 
-  abbrev run : Result Outcome RunFault
-  run = overlap_run m o (record { work = work; result = result }) table i j k
+    abbrev run : Result Outcome RunFault
+    run = overlap_run m o (record { work = work; result = result }) table i j k
 
-  next : after_overlap x run rest ≡ over (from_third n i j k)
-  next = ap over (next-rises n i j k below (omega arith) (omega arith))
+    next : after_overlap x run rest ≡ over (from_third n i j k)
+    next = ap over (next-rises n i j k below (omega arith) (omega arith))
 
-  is : vanishing x run ≡ w
-  is =
-      let v = λ (a b i j k : ℕ). vanishing (record { i = i; j = j; k = k }) (overlap_run m o (record { work = a; result = b }) table i j k) in
-      let y = t.j.number in
-      let z = t.k.number in
-      sym (told ∙ ap (λ a. v a result' t.i.number y z) wide ∙ ap (λ b. v work b t.i.number y z) long ∙ ap (λ i. v work result i y z) same.0 ∙ ap (λ j. v work result i j z) same.1 ∙ ap (v work result i j) same.2)
+    is : vanishing x run ≡ w
+    is =
+        let v = λ (a b i j k : ℕ). vanishing (record { i = i; j = j; k = k }) (overlap_run m o (record { work = a; result = b }) table i j k) in
+        let y = t.j.number in
+        let z = t.k.number in
+        sym (told ∙ ap (λ a. v a result' t.i.number y z) wide ∙ ap (λ b. v work b t.i.number y z) long ∙ ap (λ i. v work result i y z) same.0 ∙ ap (λ j. v work result i j z) same.1 ∙ ap (v work result i j) same.2)
 
-  pub step-on : w ≡ Ok true → rest ≡ over (from_third n i j k)
-  step-on h = vanishing-on x rest run (is ∙ h) ∙ next
+    pub step-on : w ≡ Ok true → rest ≡ over (from_third n i j k)
+    step-on h = vanishing-on x rest run (is ∙ h) ∙ next
 
-  pub step-found : w ≡ Ok false → Ok (Degenerate i j k) ≡ over (from_third n i j k)
-  step-found h = vanishing-not x rest run (is ∙ h) ∙ next
+    pub step-found : w ≡ Ok false → Ok (Degenerate i j k) ≡ over (from_third n i j k)
+    step-found h = vanishing-not x rest run (is ∙ h) ∙ next
 
-  pub step-refused : (f : DecideFault) → w ≡ Err f → Err f ≡ over (from_third n i j k)
-  step-refused f h = vanishing-refused x rest run f (is ∙ h) ∙ next
+    pub step-refused : (f : DecideFault) → w ≡ Err f → Err f ≡ over (from_third n i j k)
+    step-refused f h = vanishing-refused x rest run f (is ∙ h) ∙ next
 
 -- three generators that are refused do not rise
 pub not_rising : (n i j k : ℕ) (f : AlgebraFault) → (1 ≤ i) × (i < n + 1) → (1 ≤ j) × (j < n + 1) → (1 ≤ k) × (k < n + 1) → check_triple n i j k passed ≡ Err f

@@ -99,11 +99,10 @@ module _ (m : Coding) (o : OrderModel) (n : ℕ) (table : List Relation) (valid 
         )
 
     letters-over : Over n (j ∷ k ∷ i ∷ []) × Over n (k ∷ i ∷ j ∷ [])
-    letters-over =
-        (
-          (record { low = omega arith; high = omega arith }, (record { low = omega arith; high = omega arith }, (record { low = omega arith; high = omega arith }, tt))),
-          (record { low = omega arith; high = omega arith }, (record { low = omega arith; high = omega arith }, (record { low = omega arith; high = omega arith }, tt))),
-        )
+    letters-over = (
+      (record { low = omega arith; high = omega arith }, (record { low = omega arith; high = omega arith }, (record { low = omega arith; high = omega arith }, tt))),
+      (record { low = omega arith; high = omega arith }, (record { low = omega arith; high = omega arith }, (record { low = omega arith; high = omega arith }, tt))),
+    )
 
     first_half-stand : StandFor m n (first_half (relation_of table k j) i j k) (around [] (rhs P k j) (i ∷ []))
     unfolding around place

@@ -17,9 +17,9 @@ returns-in_err-map_err g c =
     let k : ℕ = c.loop-p.p in
     let t = get_or ts k nil_term in
     let checked =
-        c.check_term.ensures (at (k + 1))
-        ∙ ap (λ r. check_term (at (k + 1)) (g.R.Ring.model r.ring) c.value-n.result t passed) c.rules.ensures
-        ∙ ap (λ n. check_term (at (k + 1)) m n t passed) (c.value-n.ensures.value ∙ ap (λ x. x.n) c.count.ensures) in
+    c.check_term.ensures (at (k + 1))
+    ∙ ap (λ r. check_term (at (k + 1)) (g.R.Ring.model r.ring) c.value-n.result t passed) c.rules.ensures
+    ∙ ap (λ n. check_term (at (k + 1)) m n t passed) (c.value-n.ensures.value ∙ ap (λ x. x.n) c.count.ensures) in
     let p = err_from_is_err_and c.from_residual.result c.from_residual.ensures.1 in
     rw (p.1, p.2) (ap (λ r. then_do r (λ _. scan_from at m q.count.n ts (k + 1))) (sym c.in_err-map_err.was) ∙ scan-more at m q.count.n ts k c.check_term.result c.map_err.result (omega arith) checked c.map_err.ensures.cases (λ e f h. search rules) ∙ c.loop-p.invariant)
 
@@ -32,7 +32,7 @@ loop-p-preserved g c =
     let k : ℕ = c.loop-p.p in
     let t = get_or ts k nil_term in
     let checked =
-        c.check_term.ensures (at (k + 1))
-        ∙ ap (λ r. check_term (at (k + 1)) (g.R.Ring.model r.ring) c.value-n.result t passed) c.rules.ensures
-        ∙ ap (λ n. check_term (at (k + 1)) m n t passed) (c.value-n.ensures.value ∙ ap (λ x. x.n) c.count.ensures) in
+    c.check_term.ensures (at (k + 1))
+    ∙ ap (λ r. check_term (at (k + 1)) (g.R.Ring.model r.ring) c.value-n.result t passed) c.rules.ensures
+    ∙ ap (λ n. check_term (at (k + 1)) m n t passed) (c.value-n.ensures.value ∙ ap (λ x. x.n) c.count.ensures) in
     ap (λ r. then_do r (λ _. scan_from at m q.count.n ts (k + 1))) (sym c.in_ok-map_err.was) ∙ scan-more at m q.count.n ts k c.check_term.result c.map_err.result (omega arith) checked c.map_err.ensures.cases (λ e f h. search rules) ∙ c.loop-p.invariant
