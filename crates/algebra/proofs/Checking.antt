@@ -13,10 +13,9 @@ use Rattle.relations.specs.Declare.{is_word, is_generator}
 use Rattle.algebra.specs.declared.fault.CallCause.{CallCause}
 use Rattle.algebra.specs.declared.fault.CallCause.TheVariants.{Generator, NotRising, Coefficient}
 use Rattle.algebra.specs.declared.fault.AlgebraFault.{AlgebraFault}
-use Rattle.algebra.specs.declared.fault.AlgebraFault.TheVariants.{Call}
 use Rattle.algebra.specs.declared.verdict.Verdict.{Verdict}
 use Rattle.algebra.specs.declared.verdict.Verdict.TheVariants.{Undecided, Sound, Degenerate}
-use Rattle.algebra.specs.Overlaps.{passed, check, check_triple}
+use Rattle.algebra.specs.Overlaps.{unplaced, passed, check, check_triple}
 use Rattle.algebra.specs.Calls.{in_first, in_second, check_term, scan, when_sound, scan_first, scan_second, first_list, second_list, checks}
 use Rattle.algebra.specs.Scans.{placed}
 
@@ -131,8 +130,8 @@ triple_through n i j k r = at (is_generator n i) (is_generator n j) (is_generato
 -- what is done with three generators that rise
 pub triple_then : {A : Type 0} (n i j k : ℕ) (f : ℕ → ℕ → ℕ → Result A AlgebraFault) (r : Result Triple CallCause) (s : Result Triple AlgebraFault) {Q : CallCause → AlgebraFault → Type 0}
     → IfOk r (λ t. (t.i.number ≡ i) × (t.j.number ≡ j) × (t.k.number ≡ k)) → OnOk r (check_triple n i j k passed ≡ passed)
-    → IfErr r (λ e. check_triple n i j k passed ≡ Err (Call (record { cause = e; a = 0; b = 0 })))
-    → MatchResult r (λ t. s ≡ Ok t) (λ e. IsErrAnd s (Q e)) → ((e : CallCause) (x : AlgebraFault) → Q e x → x ≡ Call (record { cause = e; a = 0; b = 0 }))
+    → IfErr r (λ e. check_triple n i j k passed ≡ Err (unplaced e))
+    → MatchResult r (λ t. s ≡ Ok t) (λ e. IsErrAnd s (Q e)) → ((e : CallCause) (x : AlgebraFault) → Q e x → x ≡ unplaced e)
     → then_do s (λ t. f t.i.number t.j.number t.k.number) ≡ check_triple n i j k (f i j k)
 triple_then n i j k f (Ok t) s same passes refuses h q =
     ap (λ s. then_do s (λ t. f t.i.number t.j.number t.k.number)) h
