@@ -14,12 +14,11 @@ pub letters-end : (row : List ℕ) (i : ℕ) → i < length row → is_letter (g
 letters-end row i l h = at_drop_more letters row i 0 l ∙ ap (λ t. cond t (get_or row i 0 ∷ letters (drop (i + 1) row)) []) h
 
 -- the part of the 80 bytes that holds the writing
-pub written-part : (m : Coding) (a n : ℕ) (out old : List ℕ) → ◌≡◌ {A = Answer} (Ok n) (write_answer m a) → out ≡ cond (m.used a) (filled (m.writing a)) old → take (n - 0) out ≡ written m a
+pub written-part : (m : Coding) (a n : ℕ) (out old : List ℕ) → ◌≡◌ {A = Answer} (Ok n) (write_answer m a) → out ≡ cond (m.used a) (filled (m.writing a)) old → take n out ≡ written m a
 written-part m a n out old e b = go (m.used a) e b
   where
-    go : (t : Bool) → ◌≡◌ {A = Answer} (Ok n) (cond t (Ok (length (m.writing a))) (Err NotInUse)) → out ≡ cond t (filled (m.writing a)) old → take (n - 0) out ≡ cond t (m.writing a) []
+    go : (t : Bool) → ◌≡◌ {A = Answer} (Ok n) (cond t (Ok (length (m.writing a))) (Err NotInUse)) → out ≡ cond t (filled (m.writing a)) old → take n out ≡ cond t (m.writing a) []
     go true e b =
         let l : n ≡ length (m.writing a) = cc in
-        let k : n - 0 ≡ length (m.writing a) = omega arith in
-        ap₂ take k b ∙ take_at (m.writing a) (replicate (80 - length (m.writing a)) 0) (length (m.writing a)) refl
+        ap₂ take l b ∙ take_at (m.writing a) (replicate (80 - length (m.writing a)) 0) (length (m.writing a)) refl
     go false e b = let z : ◌≡◌ {A = ℕ} 0 1 = cc in absurd (omega arith)

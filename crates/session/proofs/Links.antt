@@ -18,14 +18,13 @@ use Rattle.evaluation.specs.Tails.{made_terms}
 use Rattle.session.specs.State.{State, declaring}
 use Rattle.session.specs.Turns.{wrapped, declaration}
 use Rattle.session.specs.Results.{first_read, Comes}
-use Rattle.session.specs.Failures.{failure_of}
 use Rattle.session.specs.declared.state.Stage.TheVariants as stage
 use Rattle.session.specs.State.{state_of}
 use Rattle.relations.specs.declared.open.Open.{Open}
 use Rattle.relations.specs.Presentations.{Declares}
 use Rattle.evaluation.specs.Tails.{Made}
-use Rattle.evaluation.specs.declared.tail.fault.TailFault.{TailFault}
-use Rattle.evaluation.specs.declared.tail.fault.TailFault.TheVariants.{Refused, Memory}
+use Rattle.answers.specs.declared.failure.Failure.{Failure}
+use Rattle.answers.specs.declared.failure.Failure.TheVariants.{Refused, Memory}
 
 module _ {A B C E : Type 0} (x : Result A ScriptFault) (y : Result (Unit {0}) ScriptFault) (z : Result B ScriptFault) (w : E → ScriptFault) (g : A → B → Result (Unit {0}) E) (h : A → B → C) where
   -- the factor's code, where all coefficients are read
@@ -98,9 +97,9 @@ module _ (k : AnyRing) (o : AnyOrder) (n : ℕ) (table : List Relation) (pairs :
   pub is_declared : (a : ℕ) (tail : List Term) → Ok a ≡ read_first → tails ≡ Ok tail → Ok tt ≡ answer a tail → declaration k o n table pairs j i c ts ≡ Ok (after a tail)
   is_declared a tail p q r = declares Declare answer after factor others tails a tail p q r
 
-  pub tail_fails : (a : ℕ) (f : TailFault) (s : State) → Ok a ≡ read_first → Made tails (Err f) → Comes (declaration k o n table pairs j i c ts) s s (Err (failure_of f))
+  pub tail_fails : (a : ℕ) (f : Failure) (s : State) → Ok a ≡ read_first → Made tails (Err f) → Comes (declaration k o n table pairs j i c ts) s s (Err f)
   tail_fails a (Refused e) s p q = (not_made a e p q, refl)
-  tail_fails a Memory s p q = tt
+  tail_fails a (Memory m) s p q = tt
 
 -- what an open algebra stands for
 pub same_state : (a b : Open AnyRing AnyOrder) → a.ring ≡ b.ring → a.order ≡ b.order → a.presentation.count ≡ b.presentation.count

@@ -7,8 +7,8 @@ use Rattle.choices.specs.declared.order.AnyOrder.{AnyOrder}
 use Rattle.answers.specs.declared.fault.ScriptFault.{ScriptFault}
 use Rattle.evaluation.specs.Coefficients.{and_then, by_ring, all_read}
 use Rattle.answers.specs.Answers.{refused}
-use Rattle.session.specs.declared.failure.Failure.{Failure}
-use Rattle.session.specs.declared.failure.Failure.TheVariants.{Refused, Memory}
+use Rattle.answers.specs.declared.failure.Failure.{Failure}
+use Rattle.answers.specs.declared.failure.Failure.TheVariants.{Refused, Memory}
 use Rattle.session.specs.declared.state.Stage.TheVariants as stage
 use Rattle.session.specs.declared.answer.Answer.{Answer}
 use Rattle.session.specs.State.{State, state_of}
@@ -28,10 +28,10 @@ first_read m c others = and_then (by_ring (m.read c)) (λ a. and_then (all_read 
 abbrev pub Comes : Result State ScriptFault → State → State → Result (Unit {0}) Failure → Type 0
 Comes want before after (Ok u) = want ≡ Ok after
 Comes want before after (Err (Refused e)) = (want ≡ Err e) × (after ≡ before)
-Comes want before after (Err Memory) = Unit {0}
+Comes want before after (Err (Memory a)) = Unit {0}
 
 -- the answer and the state after of a turn; nothing where there was no memory
 abbrev pub Turned : Turn → State → Result Answer Failure → Type 0
 Turned want after (Ok a) = (want.answer ≡ answer_of a) × (want.after ≡ after)
 Turned want after (Err (Refused e)) = (want.answer ≡ refused e) × (want.after ≡ after)
-Turned want after (Err Memory) = Unit {0}
+Turned want after (Err (Memory a)) = Unit {0}

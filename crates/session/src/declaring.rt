@@ -8,7 +8,7 @@ ghost use Rattle.session.specs.Turns.{declaration};
 ghost use Rattle.session.specs.declared.state.Stage.TheVariants as stage;
 ghost use Rattle.session.specs.Results.{Comes, first_read};
 
-use crate::failure::Failure;
+use answers::failure::Failure;
 use answers::fault::ScriptFault;
 use choices::order::AnyOrder;
 use choices::ring::AnyRing;

@@ -12,12 +12,13 @@ ghost use Rattle.session.specs.declared.state.Tag.TheVariants.{Start, Declaring,
 use crate::answer::Answer;
 use crate::calculating::calculate;
 use crate::declaring::declare;
-use crate::failure::Failure;
 use crate::memory::Memory;
 use crate::opening::open_algebra;
 use crate::state::{Session, Stage, Tag};
 use algebra::close::close;
+use answers::failure::Failure;
 use answers::fault::ScriptFault;
+use answers::text::Report;
 use grammar::forms::RingForm;
 use grammar::line::{Line, OrderForm};
 use grammar::piece::Piece;
@@ -44,7 +45,7 @@ impl Session {
         let algebra = open_algebra(n, ring, order)?;
         self.stage = Stage::Open(algebra);
         self.tag = Tag::Declaring;
-        Ok(Answer::Opened)
+        Ok(Answer::Reported(Report::Opened))
     }
 
     fn relate<'a>(
@@ -64,7 +65,7 @@ impl Session {
         let answer = declare(heap, &mut algebra, j, i, factor, pieces);
         self.stage = Stage::Open(algebra);
         answer?;
-        Ok(Answer::Declared)
+        Ok(Answer::Reported(Report::Declared))
     }
 
     fn close_algebra(&mut self)
@@ -88,7 +89,7 @@ impl Session {
         let answer = algebra.decide(&mut memory.work, &mut memory.out);
         self.stage = Stage::Closed(algebra);
         let verdict = answer?;
-        Ok(Answer::Decided(verdict))
+        Ok(Answer::Reported(Report::Decided(verdict)))
     }
 
     fn work_out<'a>(&self, pieces: &[Piece<'a>], memory: &mut Memory) -> Result<Answer, Failure>
