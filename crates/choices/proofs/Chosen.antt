@@ -1,14 +1,15 @@
 -- A modulus chooses one ring, and weights choose one order: the facts in their fields have one proof at most.
-use Rattle.std.proofs.Common.{◌≡◌, ℕ, ◌+◌, ◌^◌, ◌<◌, ◌≤◌, Bool, true, false, ◌&&◌, ltb, leb, List, [], ◌∷◌, length, get_or, drop, Ok, refl, ap, ◌∙◌, ap₂, arith}
+use Rattle.std.proofs.Common.{◌≡◌, ℕ, zero, suc, ◌^◌, ◌<◌, ◌≤◌, Bool, true, false, ◌&&◌, ltb, leb, List, [], ◌∷◌, length, get_or, Ok, Err, Result, IfOk, IfErr, MatchResult, refl, ap, ◌∙◌, ap₂, subst, ⊎_elim, arith}
+use Rattle.std.specs.List.{AllZip, IsAmong}
 use mathlib.Core.HLevel.{is_prop→PathP}
 use native.Mathlib.Bridge.{le_prop}
-use Rattle.std.proofs.lemmas.List.{at_drop_more}
-use Rattle.std.proofs.lemmas.Bool.{and_from, and_parts, lt-ltb, le-leb, ltb-true, leb-true}
+use Rattle.std.proofs.lemmas.Bool.{cases_Bool, and_from, and_parts, lt-ltb, le-leb, ltb-true, leb-true}
 use Rattle.residues.specs.Modulus.{is_modulus}
 use Rattle.residues.specs.declared.residues.Residues as residues
-use Rattle.orders.specs.Weights.{weight_values}
+use Rattle.orders.specs.Weights.{Weighs, weight_values}
 use Rattle.orders.specs.declared.degree.Degree as degree
 use Rattle.orders.specs.declared.weight.Weight.{Weight}
+use Rattle.orders.specs.declared.weight.WeightOutOfRange.{WeightOutOfRange}
 use Rattle.choices.specs.Rings.{residues_when, residues_from}
 use Rattle.choices.specs.Orders.{is_weight, all_weights, weights_of, degree_when, degree_from}
 use Rattle.choices.specs.declared.ring.AnyRing.TheVariants.{Residues}
@@ -56,9 +57,28 @@ weighed_out n h = go (is_weight n) refl
     go true p = let q = and_parts (ltb 0 n) (leb n 255) p in absurd (h (ltb-true 0 n q.0) (leb-true n 255 q.1))
     go false p = refl
 
--- the weights from place i on, where the next is one, and where it is none
-pub all_weights_in : (ws : List ℕ) (i : ℕ) → i < length ws → 0 < get_or ws i 0 → get_or ws i 0 ≤ 255 → all_weights (drop i ws) ≡ all_weights (drop (i + 1) ws)
-all_weights_in ws i l p q = at_drop_more all_weights ws i 0 l ∙ ap (λ t. t && all_weights (drop (i + 1) ws)) (weighed_in (get_or ws i 0) p q)
+weighed : (ws : List ℕ) (vs : List Weight) → AllZip (λ n v. Weighs n (Ok v)) ws vs → (all_weights ws ≡ true) × (weight_values vs ≡ ws)
+weighed [] [] h = (refl, refl)
+weighed [] (v ∷ vs) h = elim h [ ]
+weighed (w ∷ ws) [] h = elim h [ ]
+weighed (w ∷ ws) (v ∷ vs) h =
+    let rest = weighed ws vs h.1 in
+    (and_from (is_weight w) (all_weights ws) (weighed_in w h.0.0 h.0.1) rest.0, ap₂ (λ (x : ℕ) (xs : List ℕ). x ∷ xs) h.0.2 rest.1)
 
-pub all_weights_out : (ws : List ℕ) (i : ℕ) → i < length ws → (0 < get_or ws i 0 → get_or ws i 0 ≤ 255 → ⊥) → all_weights (drop i ws) ≡ false
-all_weights_out ws i l h = at_drop_more all_weights ws i 0 l ∙ ap (λ t. t && all_weights (drop (i + 1) ws)) (weighed_out (get_or ws i 0) h)
+not_weighed : (ws : List ℕ) (i n : ℕ) → i < length ws → n ≡ get_or ws i n → (0 < n → n ≤ 255 → ⊥) → all_weights ws ≡ false
+not_weighed [] i n l e h = absurd (omega arith)
+not_weighed (w ∷ ws) zero n l e h = ap (λ t. t && all_weights ws) (weighed_out w (subst (λ k. 0 < k → k ≤ 255 → ⊥) e h))
+not_weighed (w ∷ ws) (suc i) n l e h =
+    ap (λ t. is_weight w && t) (not_weighed ws i n (omega arith) e h) ∙ ⊎_elim (λ t. rw t) (λ t. rw t) (cases_Bool (is_weight w))
+
+pub zip_weaker : {A B : Type 0} (P Q : A → B → Type 0) → ((x : A) (y : B) → P x y → Q x y) → (xs : List A) (ys : List B) → AllZip P xs ys → AllZip Q xs ys
+zip_weaker P Q f [] [] h = h
+zip_weaker P Q f [] (y ∷ ys) h = h
+zip_weaker P Q f (x ∷ xs) [] h = h
+zip_weaker P Q f (x ∷ xs) (y ∷ ys) h = (f x y h.0, zip_weaker P Q f xs ys h.1)
+
+-- each number made a weight, or one of them refused
+pub all_weighed : (ws : List ℕ) (r : Result (List Weight) WeightOutOfRange) → IfOk r (λ vs. AllZip (λ n v. Weighs n (Ok v)) ws vs) → IfErr r (λ e. (n : ℕ) × IsAmong ws n × Weighs n (Err e))
+    → MatchResult r (λ vs. (all_weights ws ≡ true) × (weight_values vs ≡ ws)) (λ _. all_weights ws ≡ false)
+all_weighed ws (Ok vs) h k = weighed ws vs h
+all_weighed ws (Err e) h k = not_weighed ws k.1.0 k.0 k.1.1.0 k.1.1.1 k.2

@@ -21,11 +21,7 @@ pub enum AnyOrder {
 fn checked(weights: [u64; LETTERS]) -> Result<[Weight; LETTERS], WeightOutOfRange>
     ensures { MatchResult result (λ vs. (all_weights weights ≡ true) × (weight_values vs ≡ weights)) (λ _. all_weights weights ≡ false) }
 {
-    let mut made = [Weight::new(weights[0])?; LETTERS];
-    for i in 1..LETTERS {
-        made[i] = Weight::new(weights[i])?;
-    }
-    Ok(made)
+    weights.try_map(Weight::try_from)
 }
 
 impl AnyOrder {

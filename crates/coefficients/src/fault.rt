@@ -14,13 +14,12 @@ pub enum RingFault {
     NoCode,
 }
 
-impl RingFault {
-    pub fn refusal(&self) -> Refusal
-        ensures { result ≡ ring_refusal self.now }
-    {
-        match self {
-            RingFault::NotInUse => Refusal::plain(4, 1),
-            RingFault::NoWriting => Refusal::plain(4, 1),
+impl From<RingFault> for Refusal {
+    ghost from_gives = { λ fault refusal. refusal ≡ ring_refusal fault };
+
+    fn from(fault: RingFault) -> Refusal {
+        match fault {
+            RingFault::NotInUse | RingFault::NoWriting => Refusal::plain(4, 1),
             RingFault::NoCode => Refusal::plain(10, 1),
         }
     }

@@ -1,32 +1,32 @@
 -- What the links of a chain of readers answered.
-use Rattle.std.proofs.Common.{◌≡◌, ℕ, suc, ◌+◌, ◌-◌, ◌<◌, Bool, true, false, cond, eqb, List, [], ◌∷◌, ◌++◌, length, take, drop, Some, None, Ok, Err, Option, Result, sym, refl, ap, arith, length-append}
+use Rattle.std.proofs.Common.{◌≡◌, ℕ, suc, ◌+◌, ◌-◌, ◌<◌, Bool, true, false, cond, eqb, List, [], ◌∷◌, ◌++◌, length, Some, None, Ok, Err, Option, Result, sym, refl, ap, arith, length-append}
 use Rattle.std.proofs.lemmas.Bool.Decides.{nat_tests}
 use Rattle.grammar.specs.declared.fault.ReadFault.{ReadFault}
 use Rattle.grammar.specs.declared.fault.ReadFault.TheVariants.{Misfit}
-use Rattle.grammar.specs.declared.bytes.Next.TheVariants.{Part, End}
-use Rattle.grammar.specs.Reading.{Reads, and_then, expect, formed, unless_generator, read_atom, read_number, read_spaced_number, read_coefficient, read_next, by_next, read_parts, number_of, generator_of, atom_length}
+use Rattle.grammar.specs.declared.bytes.Next.TheVariants.{Part}
+use Rattle.grammar.specs.Reading.{Reads, and_then, expect, formed, unless_generator, read_atom, read_number, read_spaced_number, read_coefficient, read_next, by_next, read_parts, number_of, generator_of}
 use Rattle.grammar.proofs.Operating.{atom_shrinks}
 
 -- an answer of a chain has answers at its links
 pub linked : {X Y : Type 0} (r : Result X ReadFault) (f : X → Result Y ReadFault) (y : Y) → and_then r f ≡ Ok y → (x : X) × (r ≡ Ok x) × (f x ≡ Ok y)
 linked (Ok x) f y h = (x, refl, h)
-linked {X} {Y} (Err e) f y h = let z : ◌≡◌ {A = ℕ} 0 1 = cc in absurd (omega arith)
+linked (Err e) f y h = absurd (cc)
 
 pub chosen : {Y : Type 0} (b : Bool) (r : Result Y ReadFault) (y : Y) → cond b r (Err Misfit) ≡ Ok y → (b ≡ true) × (r ≡ Ok y)
 chosen true r y h = (refl, h)
-chosen false r y h = let z : ◌≡◌ {A = ℕ} 0 1 = cc in absurd (omega arith)
+chosen false r y h = absurd (cc)
 
 pub formed_is : {X : Type 0} (o : Option X) (r rest : List ℕ) (x : X) → formed o r ≡ Ok (x, rest) → (o ≡ Some x) × (r ≡ rest)
 formed_is {X} (Some y) r rest x h = let q : ◌≡◌ {A = X × List ℕ} (y, r) (x, rest) = cc in (ap (λ (p : X × List ℕ). Some p.0) q, ap (λ (p : X × List ℕ). p.1) q)
-formed_is {X} None r rest x h = let z : ◌≡◌ {A = ℕ} 0 1 = cc in absurd (omega arith)
+formed_is None r rest x h = absurd (cc)
 
 pub unless_is : (o : Option ℕ) (a r x rest : List ℕ) → unless_generator o a r ≡ Ok (x, rest) → (o ≡ None) × (a ≡ x) × (r ≡ rest)
-unless_is (Some n) a r x rest h = let z : ◌≡◌ {A = ℕ} 0 1 = cc in absurd (omega arith)
+unless_is (Some n) a r x rest h = absurd (cc)
 unless_is None a r x rest h = let q : ◌≡◌ {A = List ℕ × List ℕ} (a, r) (x, rest) = cc in (refl, ap (λ (p : List ℕ × List ℕ). p.0) q, ap (λ (p : List ℕ × List ℕ). p.1) q)
 
 pub expect-written : (w bs rest : List ℕ) → expect w bs ≡ Ok rest → bs ≡ w ++ rest
 expect-written [] bs rest h = cc
-expect-written (c ∷ w) [] rest h = let z : ◌≡◌ {A = ℕ} 0 1 = cc in absurd (omega arith)
+expect-written (c ∷ w) [] rest h = absurd (cc)
 expect-written (c ∷ w) (b ∷ bs) rest h = let k = chosen (eqb b c) (expect w bs) rest h in let i = expect-written w bs rest k.1 in grind (arith, nat_tests)
 
 pub expect_shrinks : (w bs rest : List ℕ) → Ok rest ≡ expect w bs → length rest + length w ≡ length bs
@@ -49,27 +49,10 @@ coefficient_shrinks bs a rest h =
     let l = linked (read_atom bs) (λ p. unless_generator (generator_of p.0) p.0 p.1) (a, rest) (sym h) in
     omega (arith, atom_shrinks bs l.0.0 l.0.1 (sym l.1), ap length (unless_is (generator_of l.0.0) l.0.0 l.0.1 a rest l.2).2)
 
-abbrev misfit : Reads (List ℕ)
-misfit = Err Misfit
-
-number_or : (b : Bool) (a r : List ℕ) → and_then (and_then {X = List ℕ × List ℕ} (cond b (Err Misfit) (Ok (a, r))) (λ p. formed (number_of p.0) p.1)) (λ _. misfit) ≡ misfit
-number_or true a r = refl
-number_or false a r = go (number_of a)
-  where
-    go : (o : Option ℕ) → and_then (formed o r) (λ _. misfit) ≡ misfit
-    go (Some n) = refl
-    go None = refl
-
--- the last part that a list may have no more
-pub last_part : (xs bs : List ℕ) → read_parts 1 read_number xs bs ≡ and_then (expect (41 ∷ []) bs) (λ q. Ok (xs, q))
+-- a part more than a list may have
+pub parts_full : {X : Type 0} (R : List ℕ → Reads X) (xs : List X) (bs after more : List ℕ) (x : X) → Ok (Part, after) ≡ read_next bs → Ok (x, more) ≡ R after → read_parts 1 R xs bs ≡ Err Misfit
 unfolding read_parts
-last_part xs [] = refl
-last_part xs (b ∷ bs) = go (eqb b 41) (eqb b 32)
-  where
-    go : (p q : Bool) → by_next (cond p (Ok (End, bs)) (cond q (Ok (Part, bs)) (Err Misfit))) (λ q. Ok (xs, q)) (λ r. and_then (read_number r) (λ _. misfit)) ≡ and_then (cond p (Ok bs) (Err Misfit)) (λ q. Ok (xs, q))
-    go true q = refl
-    go false true = number_or (eqb (atom_length bs) 0) (take (atom_length bs) bs) (drop (atom_length bs) bs)
-    go false false = refl
+parts_full R xs bs after more x h k = rw (sym h, sym k)
 
 pub parts_more : {X : Type 0} (R : List ℕ → Reads X) (n i : ℕ) (xs : List X) (bs : List ℕ) → i < n → read_parts (n - i) R xs bs ≡ by_next (read_next bs) (λ q. Ok (xs, q)) (λ r. and_then (R r) (λ p. read_parts (n - (i + 1)) R (xs ++ (p.0 ∷ [])) p.1))
 unfolding read_parts

@@ -95,17 +95,17 @@ record Deeper (os : Operands) (d : ℕ) (bs : List ℕ) : Type 0 where
 
 pub then_deep : {X Y : Type 0} (r : Result X ReadFault) (f : X → Result Y ReadFault) → and_then r f ≡ Err DeepBracket → (r ≡ Err DeepBracket) ⊎ ((x : X) × (r ≡ Ok x) × (f x ≡ Err DeepBracket))
 then_deep (Ok x) f h = inr (x, refl, h)
-then_deep (Err Misfit) f h = let z : ◌≡◌ {A = ℕ} 0 1 = cc in absurd (omega arith)
+then_deep (Err Misfit) f h = absurd (cc)
 then_deep (Err DeepBracket) f h = inl refl
 
 chosen_deep : {X : Type 0} (b : Bool) (r : Result X ReadFault) → cond b r (Err Misfit) ≡ Err DeepBracket → (b ≡ true) × (r ≡ Err DeepBracket)
 chosen_deep true r h = (refl, h)
-chosen_deep false r h = let z : ◌≡◌ {A = ℕ} 0 1 = cc in absurd (omega arith)
+chosen_deep false r h = absurd (cc)
 
 next_deep : {Y : Type 0} (r : Reads Next) (f g : List ℕ → Reads Y) → Shallow r → ((q : List ℕ) → Shallow (f q)) → by_next r f g ≡ Err DeepBracket → (q : List ℕ) × (r ≡ Ok (Part, q)) × (g q ≡ Err DeepBracket)
 next_deep (Ok (End, q)) f g s t h = absurd (t q h)
 next_deep (Ok (Part, q)) f g s t h = (q, refl, h)
-next_deep (Err Misfit) f g s t h = let z : ◌≡◌ {A = ℕ} 0 1 = cc in absurd (omega arith)
+next_deep (Err Misfit) f g s t h = absurd (cc)
 next_deep (Err DeepBracket) f g s t h = absurd (s refl)
 
 spaced-shallow : (o : Operator) (bs : List ℕ) → Shallow (spaced o bs)
@@ -236,7 +236,7 @@ Finds R d = (bs : List ℕ) → R bs ≡ Err DeepBracket → Deeply d bs
 module _ (R : List ℕ → Reads Expr) (d : ℕ) (S : Sound R d) (D : Finds R d) where
   more_deep : (n : ℕ) (os : Operands) (bs : List ℕ) → FineAll os → read_more n R os bs ≡ Err DeepBracket → Deeper os d bs
   unfolding read_more Fine
-  more_deep zero os bs f h = let z : ◌≡◌ {A = ℕ} 0 1 = cc in absurd (omega arith)
+  more_deep zero os bs f h = absurd (cc)
   more_deep (suc n) os bs f h =
       let w = next_deep (read_next bs) _ _ (next-shallow bs) (λ q. cond-shallow (may_end (operator_of os) (joined_by os)) (Ok (apply os, q)) (Err Misfit) (ok-shallow (apply os, q)) (misfit-shallow {X = Expr × List ℕ})) h in
       let c = chosen_deep (may_go_on (operator_of os) (joined_by os)) _ w.2 in

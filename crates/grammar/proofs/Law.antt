@@ -21,28 +21,28 @@ ways : (bs : List ℕ) → ((length bs ≤ 1000) × (read_form bs ≡ whole (rea
 ways bs = ⊎_elim (λ w. inl (w.1, short bs w.1)) (λ w. inr (w.1, long bs w.1)) (leb_tells (length bs) 1000)
 
 whole_ok : (r : Reads Form) (f : Form) → whole r ≡ Ok f → r ≡ Ok (f, [])
-whole_ok (Ok (g, [])) f h = let i : g ≡ f = cc in ap (λ (x : Form). Ok (x, [])) i
-whole_ok (Ok (g, b ∷ bs)) f h = let z : ◌≡◌ {A = ℕ} 0 1 = cc in absurd (omega arith)
-whole_ok (Err e) f h = let z : ◌≡◌ {A = ℕ} 0 1 = cc in absurd (omega arith)
+whole_ok (Ok (g, [])) f h = cc
+whole_ok (Ok (g, b ∷ bs)) f h = absurd (cc)
+whole_ok (Err e) f h = absurd (cc)
 
 whole_deep : (r : Reads Form) → whole r ≡ Err TooDeep → r ≡ Err DeepBracket
-whole_deep (Ok (g, [])) h = let z : ◌≡◌ {A = ℕ} 0 1 = cc in absurd (omega arith)
-whole_deep (Ok (g, b ∷ bs)) h = let z : ◌≡◌ {A = ℕ} 0 1 = cc in absurd (omega arith)
-whole_deep (Err Misfit) h = let z : ◌≡◌ {A = ℕ} 0 1 = cc in absurd (omega arith)
+whole_deep (Ok (g, [])) h = absurd (cc)
+whole_deep (Ok (g, b ∷ bs)) h = absurd (cc)
+whole_deep (Err Misfit) h = absurd (cc)
 whole_deep (Err DeepBracket) h = refl
 
 whole_long : (r : Reads Form) → whole r ≡ Err TooLong → ⊥
-whole_long (Ok (g, [])) h = let z : ◌≡◌ {A = ℕ} 0 1 = cc in omega arith
-whole_long (Ok (g, b ∷ bs)) h = let z : ◌≡◌ {A = ℕ} 0 1 = cc in omega arith
-whole_long (Err Misfit) h = let z : ◌≡◌ {A = ℕ} 0 1 = cc in omega arith
-whole_long (Err DeepBracket) h = let z : ◌≡◌ {A = ℕ} 0 1 = cc in omega arith
+whole_long (Ok (g, [])) h = absurd (cc)
+whole_long (Ok (g, b ∷ bs)) h = absurd (cc)
+whole_long (Err Misfit) h = absurd (cc)
+whole_long (Err DeepBracket) h = absurd (cc)
 
 form-written : (bs : List ℕ) (f : Form) → read_form bs ≡ Ok f → (length bs ≤ 1000) × FineForm f × (write_form f ≡ bs)
 form-written bs f h =
     ⊎_elim
     (λ w. let s = any_sound bs f [] (whole_ok (read_any bs) f (sym w.1 ∙ h)) in
     (w.0, s.1, sym (s.0 ∙ append-nil (write_form f))))
-    (λ w. let z : Ok f ≡ Err TooLong = sym h ∙ w.1 in let y : ◌≡◌ {A = ℕ} 0 1 = cc in absurd (omega arith)) (ways bs)
+    (λ w. let z : Ok f ≡ Err TooLong = sym h ∙ w.1 in absurd (cc)) (ways bs)
 
 form-read : (bs : List ℕ) (f : Form) → length bs ≤ 1000 → FineForm f → write_form f ≡ bs → read_form bs ≡ Ok f
 form-read bs f l k e = short bs l ∙ ap (λ b. whole (read_any b)) (sym e ∙ sym (append-nil (write_form f))) ∙ ap whole (any_complete f [] k)
@@ -87,7 +87,7 @@ deep_written bs q e g = record {
 pub deep_refused : DeepRefused
 deep_refused bs = (
   λ h. ⊎_elim (λ w. let a = any_deep bs (whole_deep (read_any bs) (sym w.1 ∙ h)) in (w.0, deep_written bs a.0 a.1 (deep_found 15 a.0 a.2)))
-      (λ w. let z : Err TooDeep ≡ Err TooLong = sym h ∙ w.1 in let y : ◌≡◌ {A = ℕ} 0 1 = cc in absurd (omega arith)) (ways bs),
+      (λ w. let z : Err TooDeep ≡ Err TooLong = sym h ∙ w.1 in absurd (cc)) (ways bs),
   λ h. deep_read bs h.0 h.1,
 )
 
@@ -99,10 +99,10 @@ refused_other bs h =
     ⊎_elim
     (λ w. (
       w.0,
-      (λ f k e. let z : Err Unreadable ≡ Ok f = sym h ∙ form-read bs f w.0 k e in let y : ◌≡◌ {A = ℕ} 0 1 = cc in omega arith),
-      (λ t. let z : Err Unreadable ≡ Err TooDeep = sym h ∙ deep_read bs w.0 t in let y : ◌≡◌ {A = ℕ} 0 1 = cc in omega arith),
+      (λ f k e. let z : Err Unreadable ≡ Ok f = sym h ∙ form-read bs f w.0 k e in absurd (cc)),
+      (λ t. let z : Err Unreadable ≡ Err TooDeep = sym h ∙ deep_read bs w.0 t in absurd (cc)),
     ))
-    (λ w. let z : Err Unreadable ≡ Err TooLong = sym h ∙ w.1 in let y : ◌≡◌ {A = ℕ} 0 1 = cc in absurd (omega arith)) (ways bs)
+    (λ w. let z : Err Unreadable ≡ Err TooLong = sym h ∙ w.1 in absurd (cc)) (ways bs)
 
 other_refused : (bs : List ℕ) → Other bs → read_form bs ≡ Err Unreadable
 other_refused bs (l, nf, nd) = go (read_form bs) refl

@@ -1,6 +1,8 @@
 -- Numbers, generators and coefficients: exactly what is written is read.
 use Rattle.std.proofs.Common.{◌≡◌, ℕ, ◌+◌, ◌<◌, Bool, true, false, cond, eqb, List, [], ◌∷◌, ◌++◌, length, take, drop, Some, None, Ok, Err, decimal, Option, Result, sym, refl, ap, ◌∙◌, subst, one-add, arith}
-use Rattle.std.specs.Str.{all_ascii_digits}
+use Rattle.std.specs.Str.Parse.{AllDigits}
+use Rattle.std.proofs.lemmas.Fmt.{decimal_is_IsNumeral, decimal_nonempty}
+use Rattle.std.proofs.lemmas.Str.Parse.{digit_from_value}
 use Rattle.std.proofs.lemmas.Bool.Decides.{nat_tests}
 use Rattle.std.proofs.lemmas.List.{take_at, drop_at, take-append-drop, length-take-le}
 use Rattle.grammar.specs.declared.fault.ReadFault.{ReadFault}
@@ -9,7 +11,7 @@ use Rattle.grammar.specs.Reading.{Reads, and_then, breaks, atom_length, formed, 
 use Rattle.grammar.specs.Grammar.{write_generator, plain, Number, Coefficient}
 use Rattle.grammar.proofs.Operating.{atom_length_le}
 use Rattle.grammar.proofs.Chains.{linked, formed_is, unless_is}
-use Rattle.grammar.proofs.Numbers.{number_writes, number-written, number-below, decimal_digits, decimal_nonempty}
+use Rattle.grammar.proofs.Numbers.{number_writes, number-written, number-below}
 
 -- the end of the line, a space or a bracket
 abbrev pub Ends : List ℕ → Type 0
@@ -27,10 +29,10 @@ pub record Exact {X : Type 0} (R : List ℕ → Reads X) (W : X → List ℕ) (P
   pub shallow : (bs : List ℕ) → Shallow (R bs)
 
 pub misfit-shallow : {X : Type 0} → Shallow {X = X} (Err Misfit)
-misfit-shallow h = let z : ◌≡◌ {A = ℕ} 0 1 = cc in absurd (omega arith)
+misfit-shallow h = absurd (cc)
 
 pub ok-shallow : {X : Type 0} (x : X) → Shallow (Ok x)
-ok-shallow x h = let z : ◌≡◌ {A = ℕ} 0 1 = cc in absurd (omega arith)
+ok-shallow x h = absurd (cc)
 
 pub then-shallow : {X Y : Type 0} (r : Result X ReadFault) (f : X → Result Y ReadFault) → Shallow r → ((x : X) → Shallow (f x)) → Shallow (and_then r f)
 then-shallow (Ok x) f h k = k x
@@ -86,17 +88,17 @@ pub atom_sound : (bs a rest : List ℕ) → read_atom bs ≡ Ok (a, rest) → At
 atom_sound bs a rest h = go (eqb (atom_length bs) 0) refl h
   where
     go : (t : Bool) → t ≡ eqb (atom_length bs) 0 → cond {A = Reads (List ℕ)} t (Err Misfit) (Ok (take (atom_length bs) bs, drop (atom_length bs) bs)) ≡ Ok (a, rest) → Atom bs a rest
-    go true k e = let z : ◌≡◌ {A = ℕ} 0 1 = cc in absurd (omega arith)
+    go true k e = absurd (cc)
     go false k e =
         let q : ◌≡◌ {A = Two} (take (atom_length bs) bs, drop (atom_length bs) bs) (a, rest) = cc in
         subst (λ (p : Two). Atom bs p.0 p.1) q (atom_taken bs k)
 
-digits-plain : (ds : List ℕ) → all_ascii_digits ds ≡ true → plain ds ≡ true
+digits-plain : (ds : List ℕ) → AllDigits 10 ds → plain ds ≡ true
 digits-plain [] h = refl
-digits-plain (d ∷ ds) h = let i = digits-plain ds in grind (arith, nat_tests)
+digits-plain (d ∷ ds) h = let r = digit_from_value d h.0 in let i = digits-plain ds h.1 in grind (arith, nat_tests)
 
 pub decimal_plain : (n : ℕ) → Number n → plain (decimal n) ≡ true
-decimal_plain n h = digits-plain (decimal n) (decimal_digits n h)
+decimal_plain n h = digits-plain (decimal n) (decimal_is_IsNumeral n (omega arith)).0.1
 
 -- a value that an atom may stand for: its writing is an atom, and the only one that stands for it
 module _ {X : Type 0} (of : List ℕ → Option X) (W : X → List ℕ) (P : X → Type 0)
@@ -114,15 +116,15 @@ module _ {X : Type 0} (of : List ℕ → Option X) (W : X → List ℕ) (P : X �
   }
 
 pub number_exact : Exact read_number decimal Number
-number_exact = formed_exact number_of decimal Number decimal_plain decimal_nonempty number_writes (λ a n h. (number-written a n h, number-below a n h))
+number_exact = formed_exact number_of decimal Number decimal_plain (λ n h. decimal_nonempty n (omega arith)) number_writes (λ a n h. (number-written a n h, number-below a n h))
 
 pub generator-written : (a : List ℕ) (n : ℕ) → generator_of a ≡ Some n → (write_generator n ≡ a) × Number n
-generator-written [] n h = let z : ◌≡◌ {A = ℕ} 0 1 = cc in absurd (omega arith)
+generator-written [] n h = absurd (cc)
 generator-written (b ∷ a) n h = go (eqb b 120) refl h
   where
     go : (t : Bool) → t ≡ eqb b 120 → cond t (number_of a) None ≡ Some n → (write_generator n ≡ b ∷ a) × Number n
     go true k e = let i : b ≡ 120 = grind (arith, nat_tests) in (rw (number-written a n e, i), number-below a n e)
-    go false k e = let z : ◌≡◌ {A = ℕ} 0 1 = cc in absurd (omega arith)
+    go false k e = absurd (cc)
 
 pub generator_exact : Exact read_generator write_generator Number
 generator_exact = formed_exact generator_of write_generator Number decimal_plain (λ n h. omega arith) number_writes generator-written
@@ -136,7 +138,7 @@ no_generator a h = go (generator_of a) refl
     go (Some n) e = let w = generator-written a n e in absurd (h n w.1 (sym w.0))
 
 pub none_generator : (a : List ℕ) → generator_of a ≡ None → (n : ℕ) → Number n → a ≡ write_generator n → ⊥
-none_generator a h n k e = let z : Some n ≡ None = sym (number_writes n k) ∙ ap generator_of (sym e) ∙ h in let y : ◌≡◌ {A = ℕ} 0 1 = cc in omega arith
+none_generator a h n k e = let z : Some n ≡ None = sym (number_writes n k) ∙ ap generator_of (sym e) ∙ h in absurd (cc)
 
 pub coefficient_exact : Exact read_coefficient (λ a. a) Coefficient
 coefficient_exact = record {

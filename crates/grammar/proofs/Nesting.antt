@@ -1,18 +1,19 @@
 -- The pieces of the expression reader.
-use Rattle.std.proofs.Common.{◌≡◌, ℕ, zero, suc, ◌+◌, ◌-◌, ◌<◌, ◌≤◌, Bool, true, false, cond, List, [], ◌∷◌, ◌++◌, length, Ok, Err, sym, refl, ap, ◌∙◌, append_assoc, arith}
+use Rattle.std.proofs.Common.{◌≡◌, ℕ, zero, suc, ◌+◌, ◌-◌, ◌<◌, ◌≤◌, Bool, true, false, cond, List, [], ◌∷◌, ◌++◌, length, Ok, Err, sym, refl, ap, ◌∙◌, length-append, arith}
 use Rattle.std.proofs.lemmas.Bool.Decides.{nat_tests}
 use Rattle.grammar.specs.declared.fault.ReadFault.{ReadFault}
-use Rattle.grammar.proofs.Operating.{Going, pieces-below}
+use Rattle.grammar.proofs.Operating.{Going, added_on, added_one}
 use Rattle.grammar.specs.declared.fault.ReadFault.TheVariants.{Misfit, DeepBracket}
 use Rattle.grammar.specs.declared.bytes.Next.{Next}
 use Rattle.grammar.specs.declared.bytes.Next.TheVariants.{Part, End}
 use Rattle.grammar.specs.declared.piece.Piece.{Piece}
+use Rattle.grammar.specs.declared.piece.Piece.TheVariants.{Join}
 use Rattle.grammar.specs.declared.piece.Operator.{Operator}
 use Rattle.grammar.specs.declared.piece.Operator.TheVariants.{Sum, Product, Difference}
 use Rattle.grammar.specs.Reading.{Reads, and_then}
 use Rattle.grammar.specs.Reading.{read_next}
 use Rattle.grammar.specs.Expressions.{Expr, apply, Operands, first, next, operator_of, joined_by}
-use Rattle.grammar.specs.Pieces.{a_join, postfix, postfix_all, Stored, pieces}
+use Rattle.grammar.specs.Pieces.{a_join, postfix, postfix_all, Added}
 use Rattle.grammar.specs.ExpressionReader.{read_expr, read_more, read_inner, read_leaf, read_operator, spaced, starts_open, may_end, may_go_on}
 
 pub at_leaf : (d : ℕ) (bs : List ℕ) → starts_open bs ≡ false → read_expr d bs ≡ read_leaf bs
@@ -33,15 +34,15 @@ at_open zero bs r e h = absurd (omega arith)
 at_open (suc d) bs r e h = let z : d ≡ suc d - 1 = omega arith in rw e (ap (λ k. read_inner (λ l. read_expr k l) r) z)
 
 spaced_shrinks : (o p : Operator) (bs rest : List ℕ) → Ok (p, rest) ≡ spaced o bs → length rest + 1 ≤ length bs
-spaced_shrinks o p [] rest h = let z : ◌≡◌ {A = ℕ} 0 1 = cc in absurd (omega arith)
+spaced_shrinks o p [] rest h = absurd (cc)
 spaced_shrinks o p (b ∷ bs) rest h = grind (arith, nat_tests)
 
 pub operator_shrinks : (o : Operator) (bs rest : List ℕ) → Ok (o, rest) ≡ read_operator bs → length rest + 1 ≤ length bs
-operator_shrinks o [] rest h = let z : ◌≡◌ {A = ℕ} 0 1 = cc in absurd (omega arith)
+operator_shrinks o [] rest h = absurd (cc)
 operator_shrinks o (b ∷ bs) rest h = let s = spaced_shrinks Sum o bs rest in let p = spaced_shrinks Product o bs rest in let d = spaced_shrinks Difference o bs rest in grind (arith, nat_tests)
 
 pub next_shrinks : (x : Next) (bs rest : List ℕ) → Ok (x, rest) ≡ read_next bs → length rest + 1 ≡ length bs
-next_shrinks x [] rest h = let z : ◌≡◌ {A = ℕ} 0 1 = cc in absurd (omega arith)
+next_shrinks x [] rest h = absurd (cc)
 next_shrinks x (b ∷ bs) rest h = grind (arith, nat_tests)
 
 pub inner_none : (R : List ℕ → Reads Expr) (bs : List ℕ) (x : ReadFault) → Err x ≡ read_operator bs → read_inner R bs ≡ Err x
@@ -55,7 +56,7 @@ inner_goes R bs r rest o e h f = rw (sym h, f)
 
 pub more_none : (n : ℕ) (R : List ℕ → Reads Expr) (os : Operands) (bs : List ℕ) (x : ReadFault) → length bs ≤ n → Err x ≡ read_next bs → read_more n R os bs ≡ Err x
 unfolding read_more
-more_none zero R os [] x h e = let i : x ≡ Misfit = cc in ap (λ (y : ReadFault). Err y) (sym i)
+more_none zero R os [] x h e = cc
 more_none zero R os (b ∷ bs) x h e = absurd (omega arith)
 more_none (suc n) R os bs x h e = rw (sym e)
 
@@ -70,29 +71,13 @@ module _ (R : List ℕ → Reads Expr) (os : Operands) (op : Operator) (k : ℕ)
   more-part zero x bs rest b h i e f = let s = next_shrinks x bs rest e in absurd (omega arith)
   more-part (suc n) x bs rest b h i e f = let z : n ≡ suc n - 1 = omega arith in rw (sym e, i, sym is-op, sym is-k, sym f) (ap (λ m. cond b (and_then (R rest) (λ p. read_more m R (next os p.0) p.1)) (Err Misfit)) z)
 
-pub stored_first : (old new : List Piece) (at n : ℕ) (o : Operator) (e : Expr) → Stored old new at n (postfix e) → Stored new new at n (postfix_all (first o e))
-unfolding postfix
-stored_first old new at n o e s = record { on = s.on; same_length = refl; before = refl; holds = s.holds }
-
-pub stored-apply : {old mid new : List Piece} {at m n : ℕ} (os : Operands) (e : Expr) → Stored old mid at m (postfix e) → Stored mid new at n (postfix_all os) → Stored old new at n (postfix (apply os))
-unfolding postfix
-stored-apply os e r s = record { on = s.on; same_length = s.same_length ∙ r.same_length; before = s.before ∙ r.before; holds = s.holds }
-
 -- another operand, and then the operator
-pub stored_next : (old a b c : List Piece) (at n m k : ℕ) (os : Operands) (e : Expr) (o : Operator) → o ≡ operator_of os → Stored old a at n (postfix_all os) → Stored a b n m (postfix e) → Stored b c m k (a_join o ∷ []) → Stored old c at k (postfix_all (next os e))
+added_next : (old a b c : List Piece) (os : Operands) (e : Expr) (o : Operator) → o ≡ operator_of os → Added old a (postfix_all os) → Added a b (postfix e) → Added b c (a_join o ∷ []) → Added old c (postfix_all (next os e))
 unfolding postfix
-stored_next old a b c at n m k os e o h x y z =
-    let up : pieces n c ≡ pieces n b = pieces-below n m c b y.on z.before in
-    let low : pieces at c ≡ pieces at a = pieces-below at n c a x.on (up ∙ y.before) in
-    record {
-      on = omega (arith, x.on, y.on, z.on);
-      same_length = z.same_length ∙ y.same_length ∙ x.same_length;
-      before = low ∙ x.before;
-      holds = z.holds ∙ ap (λ l. l ++ (a_join o ∷ [])) (z.before ∙ y.holds ∙ ap (λ l. l ++ postfix e) (y.before ∙ x.holds ∙ ap (λ l. l ++ postfix_all os) (sym low))) ∙ rw h (simp append_assoc);
-    }
+added_next old a b c os e o h x y z = rw (sym h) (added_on old a c (postfix_all os) (postfix e ++ (a_join o ∷ [])) x (added_on a b c (postfix e) (a_join o ∷ []) y z))
 
 -- a turn of the loop over operands, by what comes next
-module _ {d at joined n : ℕ} {bs rest : List ℕ} {old new : List Piece} {op : Operator} (g : Going d bs at old new op joined n rest) where
+module _ {d joined : ℕ} {bs rest : List ℕ} {old new : List Piece} {op : Operator} (g : Going d bs old new op joined rest) where
   pub going_fault : (x : ReadFault) → Err x ≡ read_next rest → read_expr d bs ≡ Err x
   going_fault x e = sym g.goes ∙ more_none g.fuel (λ l. read_expr (d - 1) l) g.os rest x g.enough e
 
@@ -105,15 +90,16 @@ module _ {d at joined n : ℕ} {bs rest : List ℕ} {old new : List Piece} {op :
   pub going_stops : (x : Next) (after : List ℕ) (y : ReadFault) → x ≡ Part → Ok (x, after) ≡ read_next rest → true ≡ may_go_on op joined → read_expr (d - 1) after ≡ Err y → read_expr d bs ≡ Err y
   going_stops x after y i e f h = going_part x after true i e f ∙ ap (λ r. and_then r (λ p. read_more (g.fuel - 1) (λ l. read_expr (d - 1) l) (next g.os p.0) p.1)) h
 
-  pub going_again : (x : Next) (after more : List ℕ) (e : Expr) (mid last : List Piece) (m : ℕ) → x ≡ Part → Ok (x, after) ≡ read_next rest → true ≡ may_go_on op joined → read_expr (d - 1) after ≡ Ok (e, more) → Stored new mid n m (postfix e) → m + length more ≤ n + length after → length more < length after → Stored mid last m (m + 1) (a_join op ∷ []) → Going d bs at old last op (joined + 1) (m + 1) more
-  going_again x after more e mid last m i h f r s room less t =
+  pub going_again : (x : Next) (after more : List ℕ) (e : Expr) (mid last : List Piece) → x ≡ Part → Ok (x, after) ≡ read_next rest → true ≡ may_go_on op joined → read_expr (d - 1) after ≡ Ok (e, more) → Added new mid (postfix e) → length mid + length more ≤ length new + length after → length more < length after → last ≡ mid ++ (Join op ∷ []) → Going d bs old last op (joined + 1) more
+  going_again x after more e mid last i h f r s room less t =
       let k = next_shrinks x rest after h in
+      let l = ap length t ∙ length-append mid _ in
       record {
         fuel = g.fuel - 1;
         os = next g.os e;
         enough = omega (arith, g.enough);
         goes = sym (going_part x after true i h f ∙ ap (λ r. and_then r (λ p. read_more (g.fuel - 1) (λ l. read_expr (d - 1) l) (next g.os p.0) p.1)) r);
-        stored = stored_next old new mid last at n m (m + 1) g.os e op g.op_is g.stored s t;
+        stored = added_next old new mid last g.os e op g.op_is g.stored s (added_one mid last (Join op) t);
         room = omega (arith, g.room);
         shorter = omega (arith, g.shorter);
         op_is = g.op_is;

@@ -130,7 +130,7 @@ open_ways (b ∷ bs) f g s h = go (eqb b 40) refl h
     go false k e = inr e
 
 pub operator_written : (o : Operator) (bs q : List ℕ) → read_operator bs ≡ Ok (o, q) → bs ≡ sign o ∷ (32 ∷ q)
-operator_written o [] q h = let z : ◌≡◌ {A = ℕ} 0 1 = cc in absurd (omega arith)
+operator_written o [] q h = absurd (cc)
 operator_written o (b ∷ []) q h = grind (arith, nat_tests)
 operator_written Sum (b ∷ (c ∷ bs)) q h = grind (arith, nat_tests)
 operator_written Product (b ∷ (c ∷ bs)) q h = grind (arith, nat_tests)
@@ -181,7 +181,7 @@ ended_whole o x e d r q s rest i j (os, a, b, f, k, c) =
 module _ (R : List ℕ → Reads Expr) (d : ℕ) (S : Sound R d) where
   more-sound : (n : ℕ) (os : Operands) (bs : List ℕ) (e : Expr) (rest : List ℕ) → FineAll os → depth_all os ≤ d → read_more n R os bs ≡ Ok (e, rest) → Ended os d bs e rest
   unfolding read_more Fine depth
-  more-sound zero os bs e rest f k h = let z : ◌≡◌ {A = ℕ} 0 1 = cc in absurd (omega arith)
+  more-sound zero os bs e rest f k h = absurd (cc)
   more-sound (suc n) os bs e rest f k h =
       ⊎_elim
       (λ w. let c = chosen _ (Ok (apply os, w.0)) (e, rest) w.2 in
@@ -203,7 +203,7 @@ module _ (R : List ℕ → Reads Expr) (d : ℕ) (S : Sound R d) where
 
 pub expr_sound : (d : ℕ) → Sound (read_expr d) d
 unfolding read_expr
-expr_sound zero bs e rest h = ⊎_elim (λ w. let z : ◌≡◌ {A = ℕ} 0 1 = cc w.2 in absurd (omega arith)) (leaf-sound 0 bs e rest) (open_ways bs (λ _. Err DeepBracket) (read_leaf bs) (Ok (e, rest)) h)
+expr_sound zero bs e rest h = ⊎_elim (λ w. absurd (cc w.2)) (leaf-sound 0 bs e rest) (open_ways bs (λ _. Err DeepBracket) (read_leaf bs) (Ok (e, rest)) h)
 expr_sound (suc d) bs e rest h =
     ⊎_elim (λ w. let s = inner_sound (λ l. read_expr d l) d (expr_sound d) w.0 e rest w.2 in (w.1 ∙ s.0, s.1)) (leaf-sound (suc d) bs e rest)
     (open_ways bs (λ r. read_inner (λ l. read_expr d l) r) (read_leaf bs) (Ok (e, rest)) h)

@@ -19,14 +19,14 @@ use Rattle.grammar.proofs.Leaves.{Exact, Ends, Shallow, misfit-shallow, ok-shall
 pub next_ways : {Y : Type 0} (r : Reads Next) (f g : List ℕ → Reads Y) (y : Y × List ℕ) → by_next r f g ≡ Ok y → ((q : List ℕ) × (r ≡ Ok (End, q)) × (f q ≡ Ok y)) ⊎ ((q : List ℕ) × (r ≡ Ok (Part, q)) × (g q ≡ Ok y))
 next_ways (Ok (End, q)) f g y h = inl (q, refl, h)
 next_ways (Ok (Part, q)) f g y h = inr (q, refl, h)
-next_ways (Err e) f g y h = let z : ◌≡◌ {A = ℕ} 0 1 = cc in absurd (omega arith)
+next_ways (Err e) f g y h = absurd (cc)
 
 abbrev mark : Next → ℕ
 mark End = 41
 mark Part = 32
 
 pub next-written : (x : Next) (bs q : List ℕ) → read_next bs ≡ Ok (x, q) → bs ≡ mark x ∷ q
-next-written x [] q h = let z : ◌≡◌ {A = ℕ} 0 1 = cc in absurd (omega arith)
+next-written x [] q h = absurd (cc)
 next-written End (b ∷ bs) q h = grind (arith, nat_tests)
 next-written Part (b ∷ bs) q h = grind (arith, nat_tests)
 
@@ -79,7 +79,7 @@ module _ {X : Type 0} (R : List ℕ → Reads X) (W : X → List ℕ) (P : X →
 
   pub parts_sound : (n : ℕ) (xs : List X) (bs : List ℕ) (zs : List X) (rest : List ℕ) → read_parts n R xs bs ≡ Ok (zs, rest) → Parted n xs bs zs rest
   unfolding read_parts
-  parts_sound zero xs bs zs rest h = let z : ◌≡◌ {A = ℕ} 0 1 = cc in absurd (omega arith)
+  parts_sound zero xs bs zs rest h = absurd (cc)
   parts_sound (suc n) xs bs zs rest h =
       ⊎_elim
       (λ w.

@@ -7,7 +7,6 @@ use Rattle.grammar.specs.declared.fault.ReadFault.{ReadFault}
 use Rattle.grammar.specs.declared.forms.RingForm.{RingForm}
 use Rattle.grammar.specs.declared.forms.RingForm.TheVariants.{Mod, Int, QPoly}
 use Rattle.grammar.specs.declared.line.Line.{Line}
-use Rattle.grammar.specs.declared.piece.Piece.{Piece}
 use Rattle.grammar.specs.Faults.{fault_of}
 use Rattle.grammar.specs.Reading.{Reads, expect, read_number, read_spaced_number, read_generator, read_coefficient, read_parts, and_then, or_else}
 use Rattle.grammar.specs.ExpressionReader.{read_expr}
@@ -65,10 +64,10 @@ unfoldable pub read_form : List ℕ → Result Form FormFault
 read_form bs = cond (nat_le (length bs) 1000) (whole (read_any bs)) (Err TooLong)
 
 -- what a reader of a form answered: the form is the one that was to be read, or the fault is
-abbrev pub Held : Reads Form → List Piece → Result (Line × Bor (List ℕ)) ReadFault → Type 0
-Held spec ps (Ok p) = (f : Form) × (spec ≡ Ok (f, p.1.now)) × Holds p.0 ps f
-Held spec ps (Err e) = spec ≡ Err e
+abbrev pub Held : Reads Form → Result (Line × Bor (List ℕ)) ReadFault → Type 0
+Held spec (Ok p) = (f : Form) × (spec ≡ Ok (f, p.1.now)) × Holds p.0 f
+Held spec (Err e) = spec ≡ Err e
 
-abbrev pub Answered : Result Form FormFault → List Piece → Result Line FormFault → Type 0
-Answered spec ps (Ok line) = (f : Form) × (spec ≡ Ok f) × Holds line ps f
-Answered spec ps (Err e) = spec ≡ Err e
+abbrev pub Answered : Result Form FormFault → Result Line FormFault → Type 0
+Answered spec (Ok line) = (f : Form) × (spec ≡ Ok f) × Holds line f
+Answered spec (Err e) = spec ≡ Err e

@@ -1,14 +1,13 @@
 -- The forms that a line of a script may hold, and how a line that was read holds one.
-use Rattle.std.specs.Prelude.{◌≡◌, ℕ, ◌≤◌, List, [], ◌∷◌, ◌++◌, map, length, take, replicate}
+use Rattle.std.specs.Prelude.{◌≡◌, ℕ, List, [], ◌∷◌, ◌++◌, map, take, replicate}
 use Rattle.grammar.specs.declared.forms.RingForm.{RingForm}
 use Rattle.grammar.specs.declared.line.Weights.{Weights}
 use Rattle.grammar.specs.declared.line.OrderForm.{OrderForm}
 use Rattle.grammar.specs.declared.line.OrderForm.TheVariants.{Lex, Degree}
 use Rattle.grammar.specs.declared.line.Line.{Line}
 use Rattle.grammar.specs.declared.line.Line.TheVariants.{Algebra, Rel, Decide, Calc}
-use Rattle.grammar.specs.declared.piece.Piece.{Piece}
 use Rattle.grammar.specs.Expressions.{Expr}
-use Rattle.grammar.specs.Pieces.{Shown, a_generator, a_coefficient, pieces, postfix}
+use Rattle.grammar.specs.Pieces.{Shown, a_generator, a_coefficient, shown, postfix}
 
 -- lex, or the weights as they are written
 pub data OrderChoice : Type 0 where
@@ -46,9 +45,9 @@ abbrev pub term_pieces : List TermForm → List Shown
 term_pieces [] = []
 term_pieces (t ∷ ts) = one_term t ++ term_pieces ts
 
--- a line that was read, with the pieces beside it, holds this form
-abbrev pub Holds : Line → List Piece → Form → Type 0
-Holds (Algebra n r o) ps f = f ≡ algebra n r (order_choice o)
-Holds (Rel j i c k) ps f = (ts : List TermForm) × (f ≡ rel j i c.now ts) × (pieces k ps ≡ term_pieces ts) × (k ≤ length ps)
-Holds Decide ps f = f ≡ decide
-Holds (Calc k) ps f = (e : Expr) × (f ≡ calc e) × (pieces k ps ≡ postfix e) × (k ≤ length ps)
+-- a line that was read, and its pieces, hold this form
+abbrev pub Holds : Line → Form → Type 0
+Holds (Algebra n r o) f = f ≡ algebra n r (order_choice o)
+Holds (Rel j i c ps) f = (ts : List TermForm) × (f ≡ rel j i c.now ts) × (map shown ps.now ≡ term_pieces ts)
+Holds Decide f = f ≡ decide
+Holds (Calc ps) f = (e : Expr) × (f ≡ calc e) × (map shown ps.now ≡ postfix e)

@@ -1,5 +1,5 @@
 -- What the reader leaves of a form for being worked out: its pieces, those of an expression in postfix order.
-use Rattle.std.specs.Prelude.{◌≡◌, ℕ, ◌≤◌, List, [], ◌∷◌, ◌++◌, map, length, take}
+use Rattle.std.specs.Prelude.{◌≡◌, ℕ, List, [], ◌∷◌, ◌++◌, map}
 use Rattle.grammar.specs.declared.piece.Operator.{Operator}
 use Rattle.grammar.specs.declared.piece.Piece.{Piece}
 use Rattle.grammar.specs.declared.piece.Piece.TheVariants.{Generator, Coefficient, Join}
@@ -27,13 +27,6 @@ unfoldable mutual
   postfix_all (first o e) = postfix e
   postfix_all (next os e) = postfix_all os ++ (postfix e ++ (a_join (operator_of os) ∷ []))
 
--- the first n pieces
-abbrev pub pieces : ℕ → List Piece → List Shown
-pieces n all = map shown (take n all)
-
--- what stood below place `at` is there, and the added pieces behind it
-pub record Stored (old new : List Piece) (at n : ℕ) (added : List Shown) : Type 0 where
-  pub on : at ≤ n
-  pub same_length : length new ≡ length old
-  pub before : pieces at new ≡ pieces at old
-  pub holds : pieces n new ≡ pieces at new ++ added
+-- the added pieces stand behind those before
+abbrev pub Added : List Piece → List Piece → List Shown → Type 0
+Added old new added = map shown new ≡ map shown old ++ added

@@ -5,8 +5,8 @@ use Rattle.grammar.specs.declared.fault.ReadFault.{ReadFault}
 use Rattle.grammar.specs.declared.fault.ReadFault.TheVariants.{Misfit}
 use Rattle.grammar.specs.declared.bytes.Next.{Next}
 use Rattle.grammar.specs.declared.bytes.Next.TheVariants.{Part, End}
-use Rattle.grammar.specs.declared.piece.Piece.{Piece}
-use Rattle.grammar.specs.Pieces.{Shown, Stored}
+use Rattle.grammar.specs.declared.reading.Reading.{Reading}
+use Rattle.grammar.specs.Pieces.{Shown, Added}
 
 abbrev pub Reads : Type 0 → Type 0
 Reads X = Result (X × List ℕ) ReadFault
@@ -29,11 +29,12 @@ abbrev pub seen_rest : Result (Bor (List ℕ)) ReadFault → Result (List ℕ) R
 seen_rest (Ok p) = Ok p.now
 seen_rest (Err e) = Err e
 
--- the pieces of what was read stand behind those before; of `size` bytes some were taken, as many at least as pieces were added
-abbrev pub Left : {X : Type 0} → (X → List Shown) → Reads X → ℕ → ℕ → List Piece → List Piece → Result (ℕ × Bor (List ℕ)) ReadFault → Type 0
-Left {X} of spec size at old new (Ok p) =
-    (x : X) × (spec ≡ Ok (x, p.1.now)) × Stored old new at p.0 (of x) × (p.0 + length p.1.now ≤ at + size) × (length p.1.now < size)
-Left of spec size at old new (Err x) = spec ≡ Err x
+-- the pieces of what was read stand behind those before, and the rest is left; some bytes were taken, as many at least as pieces were added
+abbrev pub Left : {X : Type 0} → (X → List Shown) → Reads X → Reading → Reading → Result (Unit {0}) ReadFault → Type 0
+Left {X} of spec old new (Ok _) =
+    (x : X) × (spec ≡ Ok (x, new.rest.now)) × Added old.pieces.now.items new.pieces.now.items (of x)
+    × (length new.pieces.now.items + length new.rest.now ≤ length old.pieces.now.items + length old.rest.now) × (length new.rest.now < length old.rest.now)
+Left of spec old new (Err e) = spec ≡ Err e
 
 abbrev pub and_then : {X Y : Type 0} → Result X ReadFault → (X → Result Y ReadFault) → Result Y ReadFault
 and_then (Ok x) f = f x
@@ -77,6 +78,13 @@ formed None rest = Err Misfit
 abbrev pub read_number : List ℕ → Reads ℕ
 read_number bs = and_then (read_atom bs) (λ p. formed (number_of p.0) p.1)
 
+-- what was read of an atom: what the atom stands for, by an answer that `gives` allows
+abbrev pub Forms : {X : Type 0} → (List ℕ → Option X → Type 0) → Reads (List ℕ) → Result (X × Bor (List ℕ)) ReadFault → Type 0
+Forms gives (Ok p) (Ok q) = gives p.0 (Some q.0) × (p.1 ≡ q.1.now)
+Forms gives (Ok p) (Err e) = gives p.0 None × (e ≡ Misfit)
+Forms gives (Err e) (Ok q) = ⊥
+Forms gives (Err e) (Err x) = e ≡ x
+
 -- a number and the space behind it
 abbrev pub read_spaced_number : List ℕ → Reads ℕ
 read_spaced_number bs = and_then (read_number bs) (λ p. and_then (expect (32 ∷ []) p.1) (λ q. Ok (p.0, q)))
@@ -92,6 +100,11 @@ read_generator bs = and_then (read_atom bs) (λ p. formed (generator_of p.0) p.1
 abbrev pub unless_generator : Option ℕ → List ℕ → List ℕ → Reads (List ℕ)
 unless_generator (Some n) a rest = Err Misfit
 unless_generator None a rest = Ok (a, rest)
+
+-- what is no generator is its own bytes
+abbrev pub CoefficientIn : List ℕ → Option (Bor (List ℕ)) → Type 0
+CoefficientIn a (Some r) = (generator_of a ≡ None) × (r.now ≡ a)
+CoefficientIn a None = (n : ℕ) × (generator_of a ≡ Some n)
 
 abbrev pub read_coefficient : List ℕ → Reads (List ℕ)
 read_coefficient bs = and_then (read_atom bs) (λ p. unless_generator (generator_of p.0) p.0 p.1)

@@ -1,33 +1,24 @@
 // The reader of expressions, and of their leaves.
-ghost use Rattle.std.specs.Prelude.{◌≡◌, ℕ, ◌+◌, ◌<◌, ◌≤◌, List, [], ◌∷◌, length};
+ghost use Rattle.std.specs.Prelude.{◌≡◌};
 ghost use Rattle.grammar.specs.Reading.{seen, Left};
 ghost use Rattle.grammar.specs.ExpressionReader.{read_operator, leaf_of, may_end, may_go_on, Opens, read_leaf, read_expr};
-ghost use Rattle.grammar.specs.Pieces.{Stored, shown, postfix};
+ghost use Rattle.grammar.specs.Pieces.{shown, postfix};
 
 use crate::bytes::{Next, atom, generator_in, next_part};
 use crate::fault::ReadFault;
 use crate::piece::{Operator, Piece};
+use crate::reading::Reading;
 
 // After an opening bracket: the operator and the space behind it.
 fn operator(s: &[u8]) -> Result<(Operator, &[u8]), ReadFault>
     ensures { seen result ≡ read_operator s.now }
 {
-    let Some((b, rest)) = s.split_first() else {
-        return Err(ReadFault::Misfit);
-    };
-    let op = match *b {
-        b'+' => Operator::Sum,
-        b'*' => Operator::Product,
-        b'-' => Operator::Difference,
-        _ => return Err(ReadFault::Misfit),
-    };
-    let Some((c, rest)) = rest.split_first() else {
-        return Err(ReadFault::Misfit);
-    };
-    if *c != b' ' {
-        return Err(ReadFault::Misfit);
+    match s {
+        [b'+', b' ', rest @ ..] => Ok((Operator::Sum, rest)),
+        [b'*', b' ', rest @ ..] => Ok((Operator::Product, rest)),
+        [b'-', b' ', rest @ ..] => Ok((Operator::Difference, rest)),
+        _ => Err(ReadFault::Misfit),
     }
-    Ok((op, rest))
 }
 
 fn leaf_of_atom<'a>(a: &'a [u8]) -> Piece<'a>
@@ -39,90 +30,66 @@ fn leaf_of_atom<'a>(a: &'a [u8]) -> Piece<'a>
     }
 }
 
-pub(crate) fn store<'a>(pieces: &mut [Piece<'a>], at: usize, one: Piece<'a>)
-    requires { at < length pieces.old }
-    ensures { Stored pieces.old pieces.new at (at + 1) (shown one.entry ∷ []) }
-{
-    pieces[at] = one;
-}
-
-fn read_leaf<'a>(
-    s: &'a [u8],
-    pieces: &mut [Piece<'a>],
-    at: usize,
-) -> Result<(usize, &'a [u8]), ReadFault>
-    requires { at + length s.now ≤ length pieces.old }
-    ensures { Left postfix (read_leaf s.now) (length s.now) at pieces.old pieces.new result }
-{
-    let (a, rest) = atom(s)?;
-    store(pieces, at, leaf_of_atom(a));
-    Ok((at + 1, rest))
-}
-
 fn can_end(op: Operator, joined: usize) -> bool
     ensures { result ≡ may_end op joined }
 {
-    match op {
-        Operator::Difference => joined == 1,
-        _ => true,
-    }
+    op != Operator::Difference || joined == 1
 }
 
 fn can_go_on(op: Operator, joined: usize) -> bool
     ensures { result ≡ may_go_on op joined }
 {
-    match op {
-        Operator::Difference => joined == 0,
-        _ => true,
-    }
+    op != Operator::Difference || joined == 0
 }
 
+// What stands behind an opening bracket.
 fn opened(s: &[u8]) -> Option<&[u8]>
     ensures { Opens s.now result }
 {
-    match s.split_first() {
-        Some((b, rest)) if *b == b'(' => Some(rest),
-        _ => None,
-    }
+    s.strip_prefix(b"(")
 }
 
-// Reads an expression whose brackets nest at most `depth` deep, and writes its instructions from place `at` on.
-pub(crate) fn expression<'a>(
-    s: &'a [u8],
-    depth: usize,
-    pieces: &mut [Piece<'a>],
-    at: usize,
-) -> Result<(usize, &'a [u8]), ReadFault>
-    requires { at + length s.now ≤ length pieces.old }
-    ensures { Left postfix (read_expr depth s.now) (length s.now) at pieces.old pieces.new result }
-{
-    let Some(inner) = opened(s) else {
-        return read_leaf(s, pieces, at);
-    };
-    if depth == 0 {
-        return Err(ReadFault::DeepBracket);
+impl<'p, 'a> Reading<'p, 'a> {
+    fn leaf(&mut self) -> Result<(), ReadFault>
+        ensures { Left postfix (read_leaf self.old.rest.now) self.old self.new result }
+    {
+        let (a, rest) = atom(self.rest)?;
+        self.keep(leaf_of_atom(a), rest);
+        Ok(())
     }
-    let (op, start) = operator(inner)?;
-    let (mut n, mut rest) = expression(start, depth - 1, pieces, at)?;
-    let mut joined = 0usize;
-    loop {
-        let (next, after) = next_part(rest)?;
-        match next {
-            Next::End => {
-                if !can_end(op, joined) {
-                    return Err(ReadFault::Misfit);
+
+    // Reads an expression whose brackets nest at most `depth` deep, and adds its instructions to the pieces.
+    pub(crate) fn expression(&mut self, depth: usize) -> Result<(), ReadFault>
+        ensures { Left postfix (read_expr depth self.old.rest.now) self.old self.new result }
+    {
+        let Some(inner) = opened(self.rest) else {
+            return self.leaf();
+        };
+        if depth == 0 {
+            return Err(ReadFault::DeepBracket);
+        }
+        let (op, start) = operator(inner)?;
+        self.rest = start;
+        self.expression(depth - 1)?;
+        let mut joined = 0usize;
+        loop {
+            let (next, after) = next_part(self.rest)?;
+            self.rest = after;
+            match next {
+                Next::End => {
+                    if !can_end(op, joined) {
+                        return Err(ReadFault::Misfit);
+                    }
+                    return Ok(());
                 }
-                return Ok((n, after));
-            }
-            Next::Part => {
-                if !can_go_on(op, joined) {
-                    return Err(ReadFault::Misfit);
+                Next::Part => {
+                    if !can_go_on(op, joined) {
+                        return Err(ReadFault::Misfit);
+                    }
+                    self.expression(depth - 1)?;
+                    self.pieces.push(Piece::Join(op));
+                    joined += 1;
                 }
-                let (m, more) = expression(after, depth - 1, pieces, n)?;
-                store(pieces, m, Piece::Join(op));
-                n = m + 1;
-                rest = more;
-                joined += 1;
             }
         }
     }

@@ -12,11 +12,11 @@ pub enum FormFault {
     TooDeep,
 }
 
-impl FormFault {
-    pub fn refusal(&self) -> Refusal
-        ensures { result ≡ form_refusal self.now }
-    {
-        match self {
+impl From<FormFault> for Refusal {
+    ghost from_gives = { λ e r. r ≡ form_refusal e };
+
+    fn from(e: FormFault) -> Refusal {
+        match e {
             FormFault::Unreadable => Refusal::plain(12, 4),
             FormFault::TooLong | FormFault::TooDeep => Refusal::plain(13, 4),
         }

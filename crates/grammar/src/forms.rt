@@ -40,21 +40,19 @@ pub(crate) fn ring(s: &[u8]) -> Result<(RingForm, &[u8]), ReadFault>
 fn weights(s: &[u8]) -> Result<(Weights, &[u8]), ReadFault>
     ensures { seen_as written_weights result ≡ read_weights s.now }
 {
-    let mut values = [1; 8];
+    let mut weights = Weights::none();
     let mut rest = s;
-    for count in 0..8 {
+    loop {
         let (next, after) = next_part(rest)?;
         match next {
-            Next::End => return Ok((Weights { values, count }, after)),
+            Next::End => return Ok((weights, after)),
             Next::Part => {
-                let (w, more) = number(after)?;
-                values[count] = w;
+                let (weight, more) = number(after)?;
+                weights.push(weight)?;
                 rest = more;
             }
         }
     }
-    let end = take_bytes(rest, b")")?;
-    Ok((Weights { values, count: 8 }, end))
 }
 
 pub(crate) fn order(s: &[u8]) -> Result<(OrderForm, &[u8]), ReadFault>

@@ -9,4 +9,5 @@ pub mod laws;
 pub mod line;
 pub mod piece;
 pub mod reader;
+mod reading;
 mod terms;

@@ -1,27 +1,50 @@
 // What a line of a script holds.
-ghost use Rattle.std.specs.Prelude.{◌≡◌};
-ghost use Rattle.grammar.specs.Forms.{written_weights, padded};
+ghost use Rattle.std.specs.Prelude.{◌≡◌, ◌≤◌, [], ◌∷◌, ◌++◌, length, OnOk, IfErr};
 
+use crate::fault::ReadFault;
 use crate::forms::RingForm;
+use crate::piece::Piece;
 
-// The weights as they are written: the first `count` of them.
+// The weights as they are written: the first `count` of eight places, since a form is `Copy`.
 #[derive(Clone, Copy)]
 pub struct Weights {
-    pub(crate) values: [u64; 8],
-    pub(crate) count: usize,
+    values: [u64; 8],
+    count: usize,
+    ghost in_range: { count ≤ 8 },
 }
 
 impl Weights {
+    ghost use Rattle.grammar.specs.Forms.{written_weights, padded};
+    ghost use Rattle.grammar.specs.declared.fault.ReadFault.TheVariants.{Misfit};
+
+    pub(crate) fn none() -> Weights
+        ensures { written_weights result ≡ [] }
+    {
+        Weights {
+            values: [1; 8],
+            count: 0,
+        }
+    }
+
+    // Keeps one more, but no ninth.
+    pub(crate) fn push(&mut self, weight: u64) -> Result<(), ReadFault>
+        ensures ok { OnOk result (written_weights self.new ≡ written_weights self.old ++ weight ∷ []) }
+        ensures err { IfErr result (λ e. (e ≡ Misfit) × (length (written_weights self.old) ≡ 8)) }
+    {
+        if self.count == 8 {
+            return Err(ReadFault::Misfit);
+        }
+        self.values[self.count] = weight;
+        self.count += 1;
+        Ok(())
+    }
+
     // All eight: those that were written, then ones.
     pub fn eight(&self) -> [u64; 8]
         ensures { result ≡ padded (written_weights self.now) }
     {
         let mut all = [1; 8];
-        for i in 0..8 {
-            if i < self.count {
-                all[i] = self.values[i];
-            }
-        }
+        all[..self.count].copy_from_slice(&self.values[..self.count]);
         all
     }
 }
@@ -32,12 +55,12 @@ pub enum OrderForm {
     Degree(Weights),
 }
 
-// A form. The terms of a relation and an expression are in the pieces beside it, which are as many as the number says: of each term its
-// coefficient and then its generators, of an expression its postfix form.
+// A form. The tail of a relation is the pieces of its terms, of each its coefficient and then its generators, and an expression is its
+// postfix form.
 #[derive(Clone, Copy)]
-pub enum Line<'a> {
+pub enum Line<'p, 'a> {
     Algebra(u64, RingForm, OrderForm),
-    Rel(u64, u64, &'a [u8], usize),
+    Rel(u64, u64, &'a [u8], &'p [Piece<'a>]),
     Decide,
-    Calc(usize),
+    Calc(&'p [Piece<'a>]),
 }

@@ -1,6 +1,7 @@
 // The ring of integers; those of at most 31 bits and a sign have codes.
-ghost use Rattle.std.specs.Prelude.{◌≡◌, ◌<◌, ◌≤◌, unsigned_abs};
+ghost use Rattle.std.specs.Prelude.{◌≡◌, ◌<◌, ◌≤◌, Some, IfOk, MatchResult, unsigned_abs};
 ghost use Rattle.coefficients.specs.Numbering.{code_below};
+ghost use Rattle.coefficients.specs.declared.fault.RingFault.TheVariants.{NotInUse};
 ghost use Rattle.integers.specs.Model.{code_bound, integer, integer_number, integer_coding, negative_code, natural_code};
 
 use coefficients::fault::RingFault;
@@ -16,17 +17,16 @@ const CODES: u64 = 4294967295;
 // The greatest integer that has a code.
 const GREATEST: u64 = 2147483647;
 
-// The integer that a code in use means.
-fn value(a: u64) -> i64
-    requires { a < code_bound }
-    ensures value { result ≡ integer a }
-    ensures bound { unsigned_abs result ≤ 2147483647 }
+// The integer that a code means, if it is in use.
+fn value(a: u64) -> Result<i64, RingFault>
+    ensures value { MatchResult result (λ x. (a < code_bound) × (x ≡ integer a)) (λ e. (code_bound ≤ a) × (e ≡ NotInUse)) }
+    ensures bound { IfOk result (λ x. unsigned_abs x ≤ 2147483647) }
 {
-    if a % 2 == 0 {
-        (a / 2) as i64
-    } else {
-        -1 - (a / 2) as i64
+    if a >= CODES {
+        return Err(RingFault::NotInUse);
     }
+    let half = (a / 2) as i64;
+    Ok(if a % 2 == 0 { half } else { -1 - half })
 }
 
 // The code of an integer, if it has one.
@@ -44,23 +44,17 @@ fn code(z: i64) -> Result<u64, RingFault>
 }
 
 // The code of −n, for n from 1.
-fn code_of_negative(n: Option<u64>) -> Option<u64>
-    ensures { result ≡ negative_code n }
+fn code_of_negative(n: u64) -> Option<u64>
+    ensures { result ≡ negative_code (Some n) }
 {
-    match n {
-        Some(n) if n > 0 && n <= GREATEST => Some(n * 2 - 1),
-        _ => None,
-    }
+    (n > 0 && n <= GREATEST).then(|| n * 2 - 1)
 }
 
 // The code of n.
-fn code_of_natural(n: Option<u64>) -> Option<u64>
-    ensures { result ≡ natural_code n }
+fn code_of_natural(n: u64) -> Option<u64>
+    ensures { result ≡ natural_code (Some n) }
 {
-    match n {
-        Some(n) if n <= GREATEST => Some(n * 2),
-        _ => None,
-    }
+    (n <= GREATEST).then(|| n * 2)
 }
 
 impl Ring for Integers {
@@ -75,44 +69,30 @@ impl Ring for Integers {
     }
 
     fn sum(&self, a: u64, b: u64) -> Result<u64, RingFault> {
-        if a >= CODES || b >= CODES {
-            return Err(RingFault::NotInUse);
-        }
-        let x = value(a);
-        let y = value(b);
+        let (x, y) = (value(a)?, value(b)?);
         code(x + y)
     }
 
     fn product(&self, a: u64, b: u64) -> Result<u64, RingFault> {
-        if a >= CODES || b >= CODES {
-            return Err(RingFault::NotInUse);
-        }
-        let x = value(a);
-        let y = value(b);
+        let (x, y) = (value(a)?, value(b)?);
         code(x * y)
     }
 
     fn negative(&self, a: u64) -> Result<u64, RingFault> {
-        if a >= CODES {
-            return Err(RingFault::NotInUse);
-        }
-        let x = value(a);
+        let x = value(a)?;
         code(-x)
     }
 
     fn write(&self, a: u64, out: &mut [u8; 80]) -> Result<usize, RingFault> {
-        if a >= CODES {
-            return Err(RingFault::NotInUse);
-        }
-        let negative = a % 2 == 1;
-        Ok(write_numeral(Base::Decimal, negative, (a + 1) / 2, out))
+        let x = value(a)?;
+        Ok(write_numeral(Base::Decimal, x < 0, x.unsigned_abs(), out))
     }
 
     fn read(&self, text: &[u8]) -> Result<u64, RingFault> {
-        let a = match text.split_first() {
-            Some((b'-', digits)) => code_of_negative(read_numeral(Base::Decimal, digits)),
-            _ => code_of_natural(read_numeral(Base::Decimal, text)),
-        };
-        a.ok_or(RingFault::NoWriting)
+        match text {
+            [b'-', digits @ ..] => read_numeral(Base::Decimal, digits).and_then(code_of_negative),
+            _ => read_numeral(Base::Decimal, text).and_then(code_of_natural),
+        }
+        .ok_or(RingFault::NoWriting)
     }
 }

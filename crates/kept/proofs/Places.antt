@@ -6,6 +6,7 @@ use Rattle.orders.specs.Models.{OrderModel}
 use Rattle.words.specs.Compare.{compare_words}
 use Rattle.words.specs.declared.term.Term.{Term}
 use Rattle.kept.specs.Kept.{place, present, compare_terms, by_order, placed, fresh, merged, onto, insert}
+use Rattle.kept.specs.Search.{found_place}
 use Rattle.kept.specs.Terms.{blanks}
 use Rattle.words.specs.Terms.{blank}
 use Rattle.kept.specs.declared.fault.KeptFault.{KeptFault}
@@ -16,7 +17,7 @@ use Rattle.coefficients.specs.Coding.{Coding}
 use Rattle.coefficients.specs.declared.fault.RingFault.{RingFault}
 
 -- a term's place depends on its row alone
-pub same_place : (o : OrderModel) (s t : Term) (xs : List Term) → s.row ≡ t.row → (place o s xs ≡ place o t xs) × (present o s xs ≡ present o t xs)
+same_place : (o : OrderModel) (s t : Term) (xs : List Term) → s.row ≡ t.row → (place o s xs ≡ place o t xs) × (present o s xs ≡ present o t xs)
 unfolding compare_terms
 same_place o s t [] e = (refl, refl)
 same_place o s t (x ∷ xs) e =
@@ -25,6 +26,28 @@ same_place o s t (x ∷ xs) e =
       ap (λ r. by_order r 0 0 (suc (place o s xs))) c ∙ ap (λ n. by_order (compare_terms o x t) 0 0 (suc n)) h.0,
       ap (λ r. by_order r false true (present o s xs)) c ∙ ap (by_order (compare_terms o x t) false true) h.1,
     )
+
+ok_cases : (b : Bool) (p q : ℕ) → ◌≡◌ {A = Result ℕ ℕ} (Ok p) (cond b (Ok q) (Err q)) → (p ≡ q) × (true ≡ b)
+ok_cases true p q h = (cc, refl)
+ok_cases false p q h = absurd (cc)
+
+err_cases : (b : Bool) (p q : ℕ) → ◌≡◌ {A = Result ℕ ℕ} (Err p) (cond b (Ok q) (Err q)) → (p ≡ q) × (false ≡ b)
+err_cases true p q h = absurd (cc)
+err_cases false p q h = (cc, refl)
+
+-- what a search for the row of t tells of t
+module _ (o : OrderModel) (u t : Term) (xs : List Term) (s p : ℕ) (same : u.row ≡ t.row) where
+  pub found_here : Ok p ≡ found_place o s u xs → (p ≡ s + place o t xs) × (true ≡ present o t xs)
+  found_here h =
+      let e = ok_cases (present o u xs) p (s + place o u xs) h in
+      let k = same_place o u t xs same in
+      (e.0 ∙ ap (λ n. s + n) k.0, e.1 ∙ k.1)
+
+  pub found_absent : Err p ≡ found_place o s u xs → (p ≡ s + place o t xs) × (false ≡ present o t xs)
+  found_absent h =
+      let e = err_cases (present o u xs) p (s + place o u xs) h in
+      let k = same_place o u t xs same in
+      (e.0 ∙ ap (λ n. s + n) k.0, e.1 ∙ k.1)
 
 onto-full : (x : Term) (l : List Term) (b : Bool) → onto x (cond b (Err Full) (Ok l)) ≡ cond b (Err Full) (Ok (x ∷ l))
 onto-full x l true = refl

@@ -1,5 +1,5 @@
 -- What one comparison tells of a search, and where the search ends.
-use Rattle.std.proofs.Common.{◌≡◌, ℕ, ◌+◌, ◌-◌, ◌<◌, ◌≤◌, true, false, ◌⊎◌, List, length, get_or, drop, Less, Equal, Greater, sym, ap, ◌∙◌, subst, inl, inr, arith}
+use Rattle.std.proofs.Common.{◌≡◌, ℕ, ◌+◌, ◌-◌, ◌<◌, ◌≤◌, true, false, ◌⊎◌, List, length, get_or, drop, Ok, Err, Result, Less, Equal, Greater, sym, ap, ◌∙◌, subst, inl, inr, arith}
 use Rattle.std.proofs.lemmas.List.{get_or-drop, length-drop}
 use Rattle.orders.specs.Letters.{letters}
 use Rattle.orders.specs.Models.{OrderModel}
@@ -8,7 +8,7 @@ use Rattle.words.specs.declared.measured.Measured.{Measured}
 use Rattle.words.specs.declared.term.Term.{Term}
 use Rattle.kept.specs.Falling.{Falls}
 use Rattle.kept.specs.Kept.{compare_terms, place, present}
-use Rattle.kept.specs.Search.{Found, Passed, Ahead, measured_term}
+use Rattle.kept.specs.Search.{Found, Passed, Ahead, Settled, found_place, measured_term}
 use Rattle.kept.specs.Terms.{nil_term}
 use Rattle.kept.proofs.Ordered.{equal_turned, greater_of_less, less_of_greater, found_at, belongs_at}
 
@@ -37,14 +37,14 @@ module _ (o : OrderModel) (work : List Term) (start : ℕ) where
         here : start + (p - start) ≡ p
         here = omega arith
 
-    pub found-place : (p : ℕ) → Found o work start t p → (p ≡ start + place o t (drop start work)) × (true ≡ present o t (drop start work))
+    found-place : (p : ℕ) → Found o work start t p → (p ≡ start + place o t (drop start work)) × (true ≡ present o t (drop start work))
     found-place p f =
         let h : start ≤ p = f.0 in
         let l : p < length work = f.1 in
         let r = found_at o t (drop start work) (p - start) nil_term falls (simp length-drop (omega arith)) (ap (λ x. compare_terms o x t) (at p h) ∙ f.2) in
         (omega (arith, r.0), sym r.1)
 
-    pub between_place : (p : ℕ) → start ≤ p → p ≤ length work → Passed o work start t p → Ahead o work t p → (p ≡ start + place o t (drop start work)) × (false ≡ present o t (drop start work))
+    between_place : (p : ℕ) → start ≤ p → p ≤ length work → Passed o work start t p → Ahead o work t p → (p ≡ start + place o t (drop start work)) × (false ≡ present o t (drop start work))
     between_place p h l low high =
         let r = belongs_at o t (drop start work) (p - start) nil_term falls (simp length-drop (omega arith)) (lower low) (upper high) in
         (omega (arith, r.0), sym r.1)
@@ -59,3 +59,8 @@ module _ (o : OrderModel) (work : List Term) (start : ℕ) where
         upper : Ahead o work t p → (p - start ≡ length (drop start work)) ⊎ (compare_terms o (get_or (drop start work) (p - start) nil_term) t ≡ Less)
         upper (inl e) = inl (simp length-drop (omega arith))
         upper (inr e) = inr (ap (λ x. compare_terms o x t) (at p h) ∙ e)
+
+    -- where a search ends is the place of t
+    pub settled : (r : Result ℕ ℕ) → Settled o work start t r → r ≡ found_place o start t (drop start work)
+    settled (Ok p) h = let e = found-place p h in rw (← e.1) (ap Ok e.0)
+    settled (Err p) h = let e = between_place p h.0 h.1 h.2 h.3 in rw (← e.1) (ap Err e.0)

@@ -1,5 +1,5 @@
 -- Kept lists: the words strictly fall, and no coefficient is zero.
-use Rattle.std.specs.Prelude.{◌≡◌, List, [], ◌∷◌, ◌≢◌}
+use Rattle.std.specs.Prelude.{◌≡◌, ℕ, ◌≤◌, List, [], ◌∷◌, length, drop, ◌≢◌}
 use Rattle.std.specs.declared.cmp.Ordering.TheVariants.{Greater}
 use Rattle.orders.specs.Models.{OrderModel}
 use Rattle.words.specs.declared.term.Term.{Term}
@@ -17,6 +17,11 @@ Falls o (x ∷ xs) = Above o x xs × Falls o xs
 abbrev pub NoneZero : List Term → Type 0
 NoneZero [] = Unit {0}
 NoneZero (x ∷ xs) = (x.code ≢ 0) × NoneZero xs
+
+-- a list whose words fall stands in the memory, from `start` to its end
+pub record ListFrom (o : OrderModel) (start : ℕ) (memory : List Term) : Type 0 where
+  pub within : start ≤ length memory
+  pub falls : Falls o (drop start memory)
 
 pub record IsKept (o : OrderModel) (xs : List Term) : Type 0 where
   pub falls : Falls o xs

@@ -1,12 +1,11 @@
 -- What is known of a search in a list whose words fall.
-use Rattle.std.specs.Prelude.{◌≡◌, ℕ, ◌-◌, ◌<◌, ◌≤◌, ◌⊎◌, List, length, slice_index_or}
+use Rattle.std.specs.Prelude.{◌≡◌, ℕ, ◌+◌, ◌-◌, ◌<◌, ◌≤◌, ◌⊎◌, cond, List, length, Ok, Err, Result, slice_index_or}
 use Rattle.std.specs.declared.cmp.Ordering.TheVariants.{Less, Equal, Greater}
 use Rattle.orders.specs.Models.{OrderModel}
 use Rattle.words.specs.declared.measured.Measured.{Measured}
 use Rattle.words.specs.declared.term.Term.{Term}
-use Rattle.kept.specs.declared.search.Near.{Near}
-use Rattle.kept.specs.declared.search.Near.TheVariants.{Here, Between}
-use Rattle.kept.specs.Kept.{compare_terms}
+use Rattle.std.specs.declared.ops.Range.{Range}
+use Rattle.kept.specs.Kept.{compare_terms, place, present}
 use Rattle.kept.specs.Terms.{nil_term}
 
 -- a term with the word that was measured
@@ -25,11 +24,16 @@ Passed o work start t p = (p ≡ start) ⊎ ((start < p) × (compare_terms o (sl
 abbrev pub Ahead : OrderModel → List Term → Term → ℕ → Type 0
 Ahead o work t p = (p ≡ length work) ⊎ (compare_terms o (slice_index_or work p nil_term) t ≡ Less)
 
-abbrev pub Bounds : OrderModel → List Term → ℕ → Term → Near → Type 0
-Bounds o work start t (Here p) = Found o work start t p
-Bounds o work start t (Between low high) = (start ≤ low) × (low ≤ high) × (high ≤ length work) × Passed o work start t low × Ahead o work t high
+-- the word of t is at a place, or t belongs between two places
+abbrev pub Near : OrderModel → List Term → ℕ → Term → Result ℕ (Range ℕ) → Type 0
+Near o work start t (Ok p) = Found o work start t p
+Near o work start t (Err r) = (start ≤ r.start) × (r.start ≤ r.end) × (r.end ≤ length work) × Passed o work start t r.start × Ahead o work t r.end
 
--- the search is over
-abbrev pub Narrow : Near → Type 0
-Narrow (Here p) = Unit {0}
-Narrow (Between low high) = low ≡ high
+-- the word of t is at a place, or t belongs before a place
+abbrev pub Settled : OrderModel → List Term → ℕ → Term → Result ℕ ℕ → Type 0
+Settled o work start t (Ok p) = Found o work start t p
+Settled o work start t (Err p) = (start ≤ p) × (p ≤ length work) × Passed o work start t p × Ahead o work t p
+
+-- in the list xs, whose first term is at the place `start`: where t's word is, or where t belongs
+abbrev pub found_place : OrderModel → ℕ → Term → List Term → Result ℕ ℕ
+found_place o start t xs = cond (present o t xs) (Ok (start + place o t xs)) (Err (start + place o t xs))

@@ -4,11 +4,14 @@ ghost use Rattle.std.specs.List.{insert, remove};
 ghost use Rattle.kept.specs.Terms.{nil_term};
 ghost use Rattle.words.specs.Terms.{blank};
 
+use std::mem::replace;
 use words::term::Term;
 
 // The list from `start` on gets t before the term at p: those before p move forward by one place.
 pub fn put_in(work: &mut [Term], start: usize, p: usize, t: Term)
-    requires { (0 < start) × ((start ≤ p) × (p ≤ length work.old)) }
+    requires room { 0 < start }
+    requires from { start ≤ p }
+    requires to { p ≤ length work.old }
     ensures list { drop (start - 1) work.new ≡ insert (drop start work.old) (p - start) t }
     ensures rest { take (start - 1) work.new ≡ take (start - 1) work.old }
 {
@@ -18,12 +21,13 @@ pub fn put_in(work: &mut [Term], start: usize, p: usize, t: Term)
 
 // The list from `start` on loses the term at p: those before it move back by one place, and the free place is blank.
 pub fn take_out(work: &mut [Term], start: usize, p: usize)
-    requires { (start ≤ p) × (p < length work.old) }
+    requires from { start ≤ p }
+    requires to { p < length work.old }
     ensures list { drop (start + 1) work.new ≡ remove (drop start work.old) (p - start) }
     ensures rest { take (start + 1) work.new ≡ take start work.old ++ blank ∷ [] }
 {
     work[start..p + 1].rotate_right(1);
-    work[start] = Term::blank();
+    take_first(work, start);
 }
 
 // Takes the first term of the list from `start` on out; its place is blank then.
@@ -33,7 +37,5 @@ pub fn take_first(work: &mut [Term], start: usize) -> Term
     ensures list { drop (start + 1) work.new ≡ drop (start + 1) work.old }
     ensures rest { take (start + 1) work.new ≡ take start work.old ++ blank ∷ [] }
 {
-    let t = work[start];
-    work[start] = Term::blank();
-    t
+    replace(&mut work[start], Term::blank())
 }

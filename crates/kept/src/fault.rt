@@ -22,12 +22,12 @@ impl From<RingFault> for KeptFault {
     }
 }
 
-impl KeptFault {
-    pub fn refusal(&self) -> Refusal
-        ensures { result ≡ kept_refusal self.now }
-    {
-        match self {
-            KeptFault::Sum(f) => f.refusal(),
+impl From<KeptFault> for Refusal {
+    ghost from_gives = { λ e r. r ≡ kept_refusal e };
+
+    fn from(e: KeptFault) -> Refusal {
+        match e {
+            KeptFault::Sum(f) => Refusal::from(f),
             KeptFault::Full => Refusal::plain(23, 2),
         }
     }

@@ -1,6 +1,6 @@
 // Insertion into the list that goes from `start` to the end of its memory, its words falling.
-ghost use Rattle.std.specs.Prelude.{◌≡◌, ◌≤◌, length, drop};
-ghost use Rattle.kept.specs.Falling.{Falls};
+ghost use Rattle.std.specs.Prelude.{drop};
+ghost use Rattle.kept.specs.Falling.{ListFrom};
 ghost use Rattle.kept.specs.Kept.{insert as insertion};
 ghost use Rattle.kept.specs.Post.{Inserted};
 
@@ -20,25 +20,28 @@ pub fn insert<R: Ring, O: MonomialOrder>(
     start: usize,
     t: Term,
 ) -> Result<usize, KeptFault>
-    requires { (start ≤ length work.old) × (Falls (O.MonomialOrder.model order.now) (drop start work.old)) }
-    ensures { Inserted (insertion (R.Ring.model ring.now) (O.MonomialOrder.model order.now) start t (drop start work.old)) start work.old work.new result }
+    requires { ListFrom (O.model order.now) start work.old }
+    ensures { Inserted (insertion (R.model ring.now) (O.model order.now) start t (drop start work.old)) start work.old work.new result }
 {
     if t.code == 0 {
         return Ok(start);
     }
-    let (p, here) = find_place(order, work, start, &Measured::new(t.row));
-    if here {
-        let c = ring.sum(work[p].code, t.code)?;
-        if c == 0 {
-            take_out(work, start, p);
-            return Ok(start + 1);
+    match find_place(order, work, start, &Measured::new(t.row)) {
+        Ok(p) => {
+            let code = ring.sum(work[p].code, t.code)?;
+            if code == 0 {
+                take_out(work, start, p);
+                return Ok(start + 1);
+            }
+            work[p].code = code;
+            Ok(start)
         }
-        work[p].code = c;
-        return Ok(start);
+        Err(p) => {
+            if start == 0 {
+                return Err(KeptFault::Full);
+            }
+            put_in(work, start, p, t);
+            Ok(start - 1)
+        }
     }
-    if start == 0 {
-        return Err(KeptFault::Full);
-    }
-    put_in(work, start, p, t);
-    Ok(start - 1)
 }

@@ -1,4 +1,5 @@
 pub mod Comparing
+pub mod Bytes
 pub mod Ending
 pub mod Packing
 pub mod Weighing

@@ -1,23 +1,15 @@
--- One step of a weighted sum along two lists, and how large a count can be.
-use Rattle.std.proofs.Common.{◌≡◌, ℕ, zero, suc, ◌+◌, ◌*◌, ◌/◌, ◌^◌, ◌<◌, List, [], ◌∷◌, length, get_or, drop, refl, arith}
-use Rattle.std.proofs.lemmas.Nat.{mod_below}
-use Rattle.std.proofs.lemmas.List.{drop_more}
+-- A weighted sum over pairs of a weight and a count.
+use Rattle.std.proofs.Common.{◌≡◌, ℕ, ◌+◌, ◌*◌, List, [], ◌∷◌, sum_by, refl, ap, ◌∙◌}
+use Rattle.std.specs.List.{zip}
+use Rattle.std.proofs.lemmas.List.Sums.{sum_by-cons}
 use Rattle.orders.specs.Orders.{dot}
-use Rattle.orders.specs.Images.{bytes, counts}
-use Rattle.orders.specs.declared.image.Image.{Image}
+use Rattle.orders.specs.Weights.{weight_values}
+use Rattle.orders.specs.declared.weight.Weight.{Weight}
 
-pub dot-more : (xs ys : List ℕ) (i : ℕ) → i < length xs → i < length ys → dot (drop i xs) (drop i ys) ≡ get_or xs i 0 * get_or ys i 0 + dot (drop (i + 1) xs) (drop (i + 1) ys)
-dot-more xs ys i h k = rw (drop_more xs i 0 h, drop_more ys i 0 k)
+abbrev pub weight_of_pair : Weight × ℕ → ℕ
+weight_of_pair p = p.0.value * p.1
 
-pub dot-nil : (xs : List ℕ) → dot xs [] ≡ 0
-dot-nil [] = refl
-dot-nil (x ∷ xs) = refl
-
-bytes_lt : (k n i : ℕ) → get_or (bytes k n) i 0 < 256
-bytes_lt zero n i = omega arith
-bytes_lt (suc k) n zero = mod_below (n / 256 ^ k) 256 (omega arith)
-bytes_lt (suc k) n (suc i) = bytes_lt k n i
-
-pub counts_lt : (m : Image) (i : ℕ) → get_or (counts m) i 0 < 256
-unfolding counts
-counts_lt m i = bytes_lt 8 m.packed i
+pub pairs_dot : (ws : List Weight) (ns : List ℕ) → sum_by weight_of_pair (zip ws ns) ≡ dot (weight_values ws) ns
+pairs_dot [] ns = refl
+pairs_dot (w ∷ ws) [] = refl
+pairs_dot (w ∷ ws) (n ∷ ns) = sum_by-cons weight_of_pair (w, n) (zip ws ns) ∙ ap (λ k. w.value * n + k) (pairs_dot ws ns)

@@ -29,11 +29,11 @@ impl Degree {
         ensures { result ≡ dot (weight_values self.now.weights) (counts_of image.now) }
     {
         let counts = image.counts();
-        let mut sum = 0u32;
-        for i in 0..LETTERS {
-            sum += self.weights[i].value() as u32 * counts[i] as u32;
-        }
-        sum
+        self.weights
+            .iter()
+            .zip(counts.iter())
+            .map(|(weight, count)| weight.times(*count))
+            .sum()
     }
 }
 
@@ -42,20 +42,11 @@ impl MonomialOrder for Degree {
 
     // Equal images need no weights.
     fn compare(&self, a: &Image, b: &Image) -> Ordering {
-        let by_counts = a.first_difference(b);
-        match by_counts {
-            Ordering::Equal => Ordering::Equal,
-            _ => {
-                let x = self.weighted(a);
-                let y = self.weighted(b);
-                if x < y {
-                    return Ordering::Less;
-                }
-                if x > y {
-                    return Ordering::Greater;
-                }
-                by_counts
-            }
+        if a == b {
+            return Ordering::Equal;
         }
+        self.weighted(a)
+            .cmp(&self.weighted(b))
+            .then_with(|| a.first_difference(b))
     }
 }

@@ -21,7 +21,7 @@ impl Image {
         let mut packed = 0u64;
         for x in row {
             if !is_letter(*x) {
-                return Image { packed };
+                break;
             }
             packed += 1 << (64 - 8 * *x);
         }
@@ -39,12 +39,7 @@ impl Image {
     pub fn first_difference(&self, other: &Image) -> Ordering
         ensures { result ≡ first_difference (counts_of self.now) (counts_of other.now) }
     {
-        if self.packed < other.packed {
-            return Ordering::Less;
-        }
-        if self.packed > other.packed {
-            return Ordering::Greater;
-        }
-        Ordering::Equal
+        let (a, b) = (self.packed, other.packed);
+        a.cmp(&b)
     }
 }

@@ -1,5 +1,5 @@
 // Letters, and rows that hold the letters of a word.
-ghost use Rattle.std.specs.Prelude.{◌≡◌};
+ghost use Rattle.std.specs.Prelude.{◌≡◌, ◌<◌, ◌≤◌};
 ghost use Rattle.orders.specs.Letters.{is_letter};
 
 // How many letters there are: they are the numbers 1, 2 and so on.
@@ -17,3 +17,12 @@ pub fn is_letter(x: u8) -> bool
 {
     x >= 1 && x as usize <= LETTERS
 }
+
+// A letter: its number, from 1 to 8.
+#[derive(Clone, Copy, PartialEq, Eq, Debug)]
+pub struct Letter {
+    number: u8,
+    ghost range: { (0 < number) × (number ≤ 8) },
+}
+
+mod methods;

@@ -48,12 +48,7 @@ impl Ring for QPolynomials {
         ensures value { result ≡ qpolynomial_coding.product a b }
         ensures degree { (d e : ℕ) → Degree d a → Degree e b → is_ok result ≡ nat_le (d + e) 63 }
     {
-        let all = product_bits(a, b);
-        if all < 1u128 << 64 {
-            Ok(all as u64)
-        } else {
-            Err(RingFault::NoCode)
-        }
+        u64::try_from(product_bits(a, b)).map_err(|_| RingFault::NoCode)
     }
 
     fn negative(&self, a: u64) -> Result<u64, RingFault> {

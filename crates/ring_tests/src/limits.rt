@@ -60,7 +60,7 @@ fn moduli(rt: HostRuntime) {
     for m in [0, 1, 4294967296, 18446744073709551615] {
         assert!(rt; Residues::new(m).is_err());
     }
-    assert_eq!(rt; ModulusOutOfRange.refusal(), Refusal::plain(9, 1));
+    assert_eq!(rt; Refusal::from(ModulusOutOfRange), Refusal::plain(9, 1));
     assert!(rt; Residues::new(2).is_ok());
 }
 
@@ -150,7 +150,7 @@ fn qpolynomials(rt: HostRuntime) -> Result<(), Fail> {
 
 #[test]
 fn refusals(rt: HostRuntime) {
-    assert_eq!(rt; RingFault::NotInUse.refusal(), Refusal::plain(4, 1));
-    assert_eq!(rt; RingFault::NoWriting.refusal(), Refusal::plain(4, 1));
-    assert_eq!(rt; RingFault::NoCode.refusal(), Refusal::plain(10, 1));
+    assert_eq!(rt; Refusal::from(RingFault::NotInUse), Refusal::plain(4, 1));
+    assert_eq!(rt; Refusal::from(RingFault::NoWriting), Refusal::plain(4, 1));
+    assert_eq!(rt; Refusal::from(RingFault::NoCode), Refusal::plain(10, 1));
 }

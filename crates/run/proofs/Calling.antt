@@ -1,41 +1,39 @@
 -- Laws of a whole calculation.
-use Rattle.std.proofs.Common.{◌≡◌, ℕ, ◌≤◌, List, [], length, take, drop, Ok, Err, Result, sym, ap, ◌∙◌, subst, arith}
-use Rattle.std.proofs.lemmas.List.{drop_all, take_all}
+use Rattle.std.proofs.Common.{◌≡◌, ℕ, List, [], length, drop, Ok, Err, Result, sym, ap, ◌∙◌, arith}
+use Rattle.std.proofs.lemmas.List.{drop_all}
 use Rattle.coefficients.specs.Coding.{Coding}
 use Rattle.orders.specs.Models.{OrderModel}
 use Rattle.words.specs.declared.term.Term.{Term}
-use Rattle.kept.specs.Terms.{blanks}
 use Rattle.run.specs.declared.fault.RunFault.{RunFault}
 use Rattle.run.specs.declared.relation.Relation.{Relation}
-use Rattle.run.specs.Calls.{Answered, calculate, step_limit}
+use Rattle.run.specs.Calls.{calculate, step_limit}
 use Rattle.run.specs.Entries.{Entry, load, then_do}
-use Rattle.run.specs.Post.{Left, Ready, listed}
-use Rattle.run.specs.Step.{Outcome, run_from}
+use Rattle.run.specs.Post.{Left, Ran}
+use Rattle.run.specs.Step.{run_from}
 
-pub ready : (o : OrderModel) (want : Result (List Term) RunFault) (s : ℕ) (before after : List Term) (r : Result ℕ RunFault) → take s before ≡ blanks s → Left o want s before after r → Ready o r after
-ready o want s before after (Ok n) b h = (h.0, h.2 b, h.3)
-ready o want s before after (Err f) b h = tt
+-- what came of the run of what was loaded behind the end of the memory w
+module _ (m : Coding) (o : OrderModel) (table : List Relation) (es : List Entry) (w out : List Term) where
+  loaded : (r : Result (List Term) RunFault) → r ≡ load m o (length w) es (drop (length w) w)
+      → then_do r (λ xs. run_from m o table (length w) (length out) step_limit 0 xs []) ≡ calculate m o table (record { work = length w; result = length out }) es
+  unfolding calculate
+  loaded r h = ap (λ q. then_do q (λ xs. run_from m o table (length w) (length out) step_limit 0 xs [])) (h ∙ ap (load m o (length w) es) (drop_all (length w) w (omega arith)))
 
-listed_is : (o : OrderModel) (want : Result (List Term) RunFault) (s : ℕ) (before after : List Term) (r : Result ℕ RunFault) → Left o want s before after r → listed r after ≡ want
-listed_is o want s before after (Ok n) h = h.1
-listed_is o want s before after (Err f) h = sym h
+  pub refused : (f : RunFault) → load m o (length w) es (drop (length w) w) ≡ Err f → calculate m o table (record { work = length w; result = length out }) es ≡ Err f
+  refused f h = sym (loaded (Err f) (sym h))
 
--- the memory w was blank and had its list at its end; w1 is what loading left, and r its answer
-pub calculated : (m : Coding) (o : OrderModel) (table : List Relation) (work result : ℕ) (es : List Entry) (w w1 : List Term) (n work1 result1 : ℕ) (r : Result ℕ RunFault)
-    → Left o (load m o (length w) es (drop n w)) n w w1 r → length w ≡ work → length w ≤ n → work1 ≡ work → result1 ≡ result
-    → then_do (listed r w1) (λ xs. run_from m o table work1 result1 step_limit 0 xs []) ≡ calculate m o table (record { work = work; result = result }) es
-unfolding calculate
-calculated m o table work result es w w1 n work1 result1 r h e l ew er =
-    ap (λ k. then_do (listed r w1) (λ xs. run_from m o table k result1 step_limit 0 xs [])) ew
-    ∙ ap (λ k. then_do (listed r w1) (λ xs. run_from m o table work k step_limit 0 xs [])) er
-    ∙ ap (λ q. then_do q (λ xs. run_from m o table work result step_limit 0 xs []))
-    (listed_is o (load m o (length w) es (drop n w)) n w w1 r h ∙ ap (λ k. load m o k es (drop n w)) e ∙ ap (load m o work es) (drop_all n w l))
+  pub ran : (limit s : ℕ) (w1 w2 out2 : List Term) (r : Result (ℕ × ℕ) RunFault) → limit ≡ step_limit → length w1 ≡ length w
+      → Left o (load m o (length w) es (drop (length w) w)) (length w) w w1 (Ok s)
+      → Ran (run_from m o table (length w1) (length out) limit 0 (drop s w1) []) s w1 out w2 out2 r
+      → Ran (calculate m o table (record { work = length w; result = length out }) es) (length w) w out w2 out2 r
+  ran limit s w1 w2 out2 r el e left = through r
+    where
+      same : run_from m o table (length w1) (length out) limit 0 (drop s w1) [] ≡ calculate m o table (record { work = length w; result = length out }) es
+      same =
+          ap (λ k. run_from m o table (length w1) (length out) k 0 (drop s w1) []) el
+          ∙ ap (λ k. run_from m o table k (length out) step_limit 0 (drop s w1) []) e
+          ∙ loaded (Ok (drop s w1)) left.1
 
-pub answered : {want want' : Result Outcome RunFault} (work out : List Term) (r : Result (ℕ × ℕ) RunFault) → want ≡ want' → Answered want work out r → Answered want' work out r
-answered work out r e h = subst (λ w. Answered w work out r) e h
-
-pub blank_front : (w : List Term) (k n : ℕ) → w ≡ blanks k → length w ≡ k → k ≡ n → take n w ≡ blanks n
-blank_front w k n e l q = take_all n w (omega arith) ∙ e ∙ ap blanks q
-
-pub blank_whole : (w : List Term) (k : ℕ) → w ≡ blanks k → length w ≡ k → w ≡ blanks (length w)
-blank_whole w k e l = e ∙ ap blanks (sym l)
+      through : (r : Result (ℕ × ℕ) RunFault) → Ran (run_from m o table (length w1) (length out) limit 0 (drop s w1) []) s w1 out w2 out2 r
+          → Ran (calculate m o table (record { work = length w; result = length out }) es) (length w) w out w2 out2 r
+      through (Ok p) h = (h.0, h.1 ∙ same, λ b. h.2 (left.2 b.0, b.1))
+      through (Err f) h = sym same ∙ h

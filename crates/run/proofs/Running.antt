@@ -1,6 +1,6 @@
 -- Laws of the run.
-use Rattle.std.proofs.Common.{◌≡◌, ℕ, suc, ◌+◌, ◌<◌, ◌≤◌, List, ◌∷◌, length, get_or, drop, Ok, Err, sym, ap, ◌∙◌}
-use Rattle.std.proofs.lemmas.List.{drop_more, drop_all}
+use Rattle.std.proofs.Common.{◌≡◌, ℕ, suc, ◌+◌, ◌<◌, List, ◌∷◌, length, get_or, drop, Ok, Err, sym, ap, ◌∙◌}
+use Rattle.std.proofs.lemmas.List.{drop_more}
 use Rattle.coefficients.specs.Coding.{Coding}
 use Rattle.orders.specs.Models.{OrderModel}
 use Rattle.words.specs.declared.term.Term.{Term}
@@ -14,9 +14,6 @@ use Rattle.run.specs.Step.{State, step_of, run_from}
 
 -- the list of the memory ws starts at i; at most f steps more, after n
 module _ (m : Coding) (o : OrderModel) (table : List Relation) (cap out f n : ℕ) (ws done : List Term) (i : ℕ) where
-  pub run_end : length ws ≤ i → run_from m o table cap out f n (drop i ws) done ≡ Ok (record { terms = done; steps = n })
-  run_end h = ap (λ l. run_from m o table cap out f n l done) (drop_all i ws h)
-
   pub run_limit : i < length ws → f ≡ 0 → run_from m o table cap out f n (drop i ws) done ≡ Err (record { cause = StepLimit; place = at_step n })
   run_limit h e =
       ap (λ l. run_from m o table cap out f n l done) (drop_more ws i nil_term h)

@@ -1,5 +1,5 @@
 -- Rows that are written in parts.
-use Rattle.std.proofs.Common.{◌≡◌, ℕ, zero, suc, ◌+◌, ◌-◌, ◌<◌, ◌≤◌, true, List, [], ◌∷◌, ◌++◌, length, get_or, take, drop, set, replicate, Some, None, sym, refl, ap, ◌∙◌, ⊎_elim, append_assoc, zero-add, arith}
+use Rattle.std.proofs.Common.{◌≡◌, ℕ, zero, suc, ◌+◌, ◌-◌, ◌<◌, ◌≤◌, List, [], ◌∷◌, ◌++◌, length, take, drop, set, replicate, Some, None, sym, refl, ap, ◌∙◌, ⊎_elim, append_assoc, zero-add, arith}
 use native.Mathlib.Nat.{sub-zero}
 use lib.Seq.{paste}
 use Rattle.std.proofs.lemmas.List.{take-take, drop-replicate, length-append, length-take-le, length-drop}
@@ -119,12 +119,3 @@ exchanged row r k i j e h l =
     ∙ ap (λ d. (take k w ++ (i ∷ j ∷ drop d w)) ++ replicate (32 - length w) 0) a2
     ∙ ap (λ d. (take k w ++ (i ∷ j ∷ drop (k + 2) w)) ++ replicate (32 - d) 0) (sym n))
     ∙ rowed-fits (around w k (i ∷ j ∷ [])) (omega arith)
-
-pub letters_at : (xs : List ℕ) (k : ℕ) → k < length (letters xs) → (get_or (letters xs) k 0 ≡ get_or xs k 0) × (is_letter (get_or xs k 0) ≡ true)
-letters_at [] k h = absurd (omega arith)
-letters_at (x ∷ xs) zero h = ⊎_elim (λ e. (rw e, e)) (λ e. absurd (omega (arith, rw e at h))) (cases_Bool (is_letter x))
-letters_at (x ∷ xs) (suc k) h =
-    ⊎_elim
-    (λ e. let i = letters_at xs k (omega (arith, rw e at h)) in (rw e i.0, i.1))
-    (λ e. absurd (omega (arith, rw e at h)))
-    (cases_Bool (is_letter x))

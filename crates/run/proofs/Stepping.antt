@@ -1,5 +1,5 @@
 -- Laws of a step.
-use Rattle.std.proofs.Common.{◌≡◌, ℕ, ◌+◌, ◌-◌, ◌<◌, ◌≤◌, List, [], ◌∷◌, ◌++◌, length, get_or, drop, IfSome, Some, None, Ok, Err, Option, Result, sym, ap, ◌∙◌, arith}
+use Rattle.std.proofs.Common.{◌≡◌, ℕ, ◌+◌, ◌-◌, ◌<◌, ◌≤◌, List, [], ◌∷◌, ◌++◌, length, drop, IfSome, Some, None, Ok, Err, Option, Result, sym, ap, ◌∙◌, arith}
 use Rattle.std.proofs.lemmas.Bool.{lt-ltb, le-ltb}
 use Rattle.std.proofs.lemmas.List.{drop-drop, drop-replicate}
 use Rattle.coefficients.specs.Coding.{Coding}
@@ -13,32 +13,14 @@ use Rattle.kept.specs.Terms.{blanks}
 use Rattle.run.specs.declared.fault.Cause.TheVariants.{ResultFull}
 use Rattle.run.specs.declared.fault.RunFault.{RunFault}
 use Rattle.run.specs.declared.relation.Relation.{Relation}
-use Rattle.run.specs.Entries.{Entry, load}
-use Rattle.run.specs.Faults.{stepping, at_step}
-use Rattle.run.specs.Pieces.{around}
-use Rattle.run.specs.Relations.{relation_of, tail_of}
-use Rattle.run.specs.Step.{State, step_of, step_by, worked, entries_at, pair_entries, tail_entries}
+use Rattle.run.specs.Entries.{load}
+use Rattle.run.specs.Faults.{at_step}
+use Rattle.run.specs.Step.{State, step_of, step_by, worked, entries_at}
 
 -- an inversion stands inside its word
 pub within : (w : List ℕ) (r : Option ℕ) → r ≡ leftmost_inversion w → IfSome r (λ k. k + 2 ≤ length w)
 within w None h = tt
 within w (Some k) h = let p = (standard-words.place w k (sym h)).0 in omega arith
-
--- the exchange of j and i
-abbrev pub exchange : Coding → ℕ → ℕ → ℕ → ℕ → List ℕ → ℕ → ℕ → Entry
-exchange m n j i f w k a = record { word = around w k (i ∷ j ∷ []); code = m.product a f; place = stepping n j i 0 }
-
--- the entries at a pair of letters, by its relation
-pub entries_are : (m : Coding) (table : List Relation) (n : ℕ) (w : List ℕ) (k a j i f : ℕ) (r : Relation) (tail : List Term)
-    → j ≡ get_or w k 0 → i ≡ get_or w (k + 1) 0 → r ≡ relation_of table j i → f ≡ r.factor → tail ≡ tail_of r
-    → entries_at m table n w k a ≡ exchange m n j i f w k a ∷ tail_entries m n j i w k a 1 tail
-unfolding entries_at
-entries_are m table n w k a j i f r tail ej ei er ef et =
-    ap (λ x. pair_entries m (relation_of table x (get_or w (k + 1) 0)) n x (get_or w (k + 1) 0) w k a) (sym ej)
-    ∙ ap (λ x. pair_entries m (relation_of table j x) n j x w k a) (sym ei)
-    ∙ ap (λ x. pair_entries m x n j i w k a) (sym er)
-    ∙ ap (λ x. exchange m n j i x w k a ∷ tail_entries m n j i w k a 1 (tail_of r)) (sym ef)
-    ∙ ap (λ x. exchange m n j i f w k a ∷ tail_entries m n j i w k a 1 x) (sym et)
 
 module _ (m : Coding) (o : OrderModel) (table : List Relation) (cap out n : ℕ) (x : Term) (xs done : List Term) where
   pub step-full : None ≡ leftmost_inversion (letters x.row) → out ≤ length done → step_of m o table cap out n x xs done ≡ Err (record { cause = ResultFull; place = at_step n })

@@ -1,9 +1,10 @@
 -- Entries: what is to be inserted, and what comes of inserting entries one after another.
-use Rattle.std.specs.Prelude.{ℕ, ◌-◌, List, [], ◌∷◌, length, Some, None, Ok, Err, Option, Result}
+use Rattle.std.specs.Prelude.{ℕ, ◌+◌, ◌-◌, List, [], ◌∷◌, length, Some, None, Ok, Err, Option, Result}
 use Rattle.coefficients.specs.Coding.{Coding, Answer}
 use Rattle.orders.specs.Models.{OrderModel}
 use Rattle.words.specs.declared.term.Term.{Term}
 use Rattle.kept.specs.Kept.{insert, Listed}
+use Rattle.run.specs.declared.entry.Entry.{Entry as RowEntry}
 use Rattle.run.specs.declared.fault.Cause.{Cause}
 use Rattle.run.specs.declared.fault.Cause.TheVariants.{Coefficient, WordTooLong}
 use Rattle.run.specs.declared.fault.Place.{Place}
@@ -36,8 +37,21 @@ added m o cap None r xs = Err WordTooLong
 added m o cap (Some row) (Err e) xs = Err (Coefficient e)
 added m o cap (Some row) (Ok c) xs = from_kept (insert m o (cap - length xs) (record { row = row; code = c }) xs)
 
+-- the same for an entry as code has it, which refuses at its place
+abbrev pub entered : Coding → OrderModel → ℕ → RowEntry → List Term → Result (List Term) RunFault
+entered m o cap e xs = at_place e.place (added m o cap e.row e.code xs)
+
+-- an entry as code has it, with the row of its word
+abbrev pub row_entry : Entry → RowEntry
+row_entry e = record { row = rowed e.word; code = e.code; place = e.place }
+
 unfoldable pub add_entry : Coding → OrderModel → ℕ → Entry → List Term → Result (List Term) RunFault
 add_entry m o cap e xs = at_place e.place (added m o cap (rowed e.word) e.code xs)
+
+-- what each term of a list gives, the places counted from p
+abbrev pub each_entry : (ℕ → Term → Entry) → ℕ → List Term → List Entry
+each_entry f p [] = []
+each_entry f p (t ∷ ts) = f p t ∷ each_entry f (p + 1) ts
 
 -- one entry after another
 abbrev pub load : Coding → OrderModel → ℕ → List Entry → List Term → Result (List Term) RunFault

@@ -1,6 +1,7 @@
 -- The refusal of a run: number and layer by its cause, and its places.
 use Rattle.std.specs.Prelude.{ℕ}
 use Rattle.refusals.specs.declared.Refusal.{Refusal}
+use Rattle.refusals.specs.Refusals.{plain}
 use Rattle.coefficients.specs.Faults.{ring_refusal}
 use Rattle.kept.specs.declared.fault.KeptFault.{KeptFault}
 use Rattle.kept.specs.declared.fault.KeptFault.TheVariants.{Sum, Full}
@@ -29,6 +30,10 @@ run_refusal f = record {
   b = f.place.b;
   e = f.place.e;
 }
+
+-- the refusal of a cause, which has no place
+abbrev pub cause_refusal : Cause → Refusal
+cause_refusal c = plain (number_and_layer c).0 (number_and_layer c).1
 
 -- a place in loading, by the places in the first and the second list
 abbrev pub loading : ℕ → ℕ → Place

@@ -30,13 +30,3 @@ Ran want start work out work' out' (Ok p) =
     (p.0 ≤ length out') × (Ok (record { terms = take p.0 out'; steps = p.1 }) ≡ want)
     × (Clean start work 0 out → (work' ≡ blanks (length work')) × (drop p.0 out' ≡ blanks (length out' - p.0)))
 Ran want start work out work' out' (Err e) = want ≡ Err e
-
--- the list that was loaded, or the refusal
-abbrev pub listed : Result ℕ RunFault → List Term → Result (List Term) RunFault
-listed (Ok s) work = Ok (drop s work)
-listed (Err e) work = Err e
-
--- a list that was loaded stands in its memory, its words fall, and the places before it are blank
-abbrev pub Ready : OrderModel → Result ℕ RunFault → List Term → Type 0
-Ready o (Ok s) work = (s ≤ length work) × (take s work ≡ blanks s) × Falls o (drop s work)
-Ready o (Err e) work = Unit {0}

@@ -13,6 +13,10 @@ use Rattle.run.specs.Faults.{stepping, at_step}
 use Rattle.run.specs.Pieces.{around}
 use Rattle.run.specs.Relations.{relation_of, tail_of}
 
+-- what the term t, the tail term e, gives in step n for the letters j, i of w at k, the word w having the code a
+abbrev pub tail_entry : Coding → ℕ → ℕ → ℕ → List ℕ → ℕ → ℕ → ℕ → Term → Entry
+tail_entry m n j i w k a e t = record { word = around w k (letters t.row); code = m.product a t.code; place = stepping n j i e }
+
 -- what the tail terms give in step n for the letters j, i of w at k, the word w having the code a; e counts the terms
 abbrev pub tail_entries : Coding → ℕ → ℕ → ℕ → List ℕ → ℕ → ℕ → ℕ → List Term → List Entry
 tail_entries m n j i w k a e [] = []

@@ -1,87 +1,45 @@
-// The calculations: normalise, sum, difference and product. Both memories may hold anything and have any size. After an answer the result
-// memory holds the terms and then blanks, after a refusal blanks; work memory is blank after both.
-ghost use Rattle.std.specs.Prelude.{◌++◌, length};
-ghost use Rattle.run.specs.Calls.{Answered, calculate, first_entries, second_entries, negated_entries, product_entries};
+// The calculations with lists of terms.
+ghost use Rattle.run.specs.Calls.{entries_of};
 
-use crate::engine::{blank_all, run};
 use crate::fault::RunFault;
-use crate::load::{load_difference, load_first, load_products, load_sum};
-use crate::relation::Table;
+use crate::rules::Rules;
+use crate::source::Source;
 use coefficients::ring::Ring;
 use orders::order::MonomialOrder;
 use words::term::Term;
 
-// The normal form of a list of terms: how many terms it has, and how many steps it took.
-pub fn normalise<R: Ring, O: MonomialOrder>(
-    ring: &R,
-    order: &O,
-    table: &Table,
-    list: &[Term],
-    work: &mut [Term],
-    out: &mut [Term],
-) -> Result<(usize, u64), RunFault>
-    ensures { Answered (calculate (R.Ring.model ring.now) (O.MonomialOrder.model order.now) table.now (record { work = length work.old; result = length out.old }) (first_entries 1 list.now)) work.new out.new result }
-{
-    blank_all(work);
-    blank_all(out);
-    let end = work.len();
-    let loaded = load_first(ring, order, list, work, end);
-    run(ring, order, table, loaded, work, out)
+#[derive(Clone, Copy)]
+pub enum Calculation<'a> {
+    // the normal form of a list
+    Normalise(&'a [Term]),
+    // of the sum of two lists
+    Sum(&'a [Term], &'a [Term]),
+    // of the first list minus the second
+    Difference(&'a [Term], &'a [Term]),
+    // of the product of two lists
+    Product(&'a [Term], &'a [Term]),
 }
 
-// The normal form of the sum of two lists.
-pub fn sum<R: Ring, O: MonomialOrder>(
-    ring: &R,
-    order: &O,
-    table: &Table,
-    first: &[Term],
-    second: &[Term],
-    work: &mut [Term],
-    out: &mut [Term],
-) -> Result<(usize, u64), RunFault>
-    ensures { Answered (calculate (R.Ring.model ring.now) (O.MonomialOrder.model order.now) table.now (record { work = length work.old; result = length out.old }) (first_entries 1 first.now ++ second_entries 1 second.now)) work.new out.new result }
-{
-    blank_all(work);
-    blank_all(out);
-    let end = work.len();
-    let loaded = load_sum(ring, order, first, second, work, end);
-    run(ring, order, table, loaded, work, out)
-}
+impl Source for Calculation<'_> {
+    ghost entries = { λ c m _. entries_of m c };
 
-// The normal form of the first list minus the second.
-pub fn difference<R: Ring, O: MonomialOrder>(
-    ring: &R,
-    order: &O,
-    table: &Table,
-    first: &[Term],
-    second: &[Term],
-    work: &mut [Term],
-    out: &mut [Term],
-) -> Result<(usize, u64), RunFault>
-    ensures { Answered (calculate (R.Ring.model ring.now) (O.MonomialOrder.model order.now) table.now (record { work = length work.old; result = length out.old }) (first_entries 1 first.now ++ negated_entries (R.Ring.model ring.now) 1 second.now)) work.new out.new result }
-{
-    blank_all(work);
-    blank_all(out);
-    let end = work.len();
-    let loaded = load_difference(ring, order, first, second, work, end);
-    run(ring, order, table, loaded, work, out)
-}
-
-// The normal form of the product of two lists.
-pub fn product<R: Ring, O: MonomialOrder>(
-    ring: &R,
-    order: &O,
-    table: &Table,
-    first: &[Term],
-    second: &[Term],
-    work: &mut [Term],
-    out: &mut [Term],
-) -> Result<(usize, u64), RunFault>
-    ensures { Answered (calculate (R.Ring.model ring.now) (O.MonomialOrder.model order.now) table.now (record { work = length work.old; result = length out.old }) (product_entries (R.Ring.model ring.now) 1 first.now second.now)) work.new out.new result }
-{
-    blank_all(work);
-    blank_all(out);
-    let end = work.len();
-    let loaded = load_products(ring, order, first, second, work, end);
-    run(ring, order, table, loaded, work, out)
+    fn load<R: Ring, O: MonomialOrder>(
+        &self,
+        rules: &Rules<R, O>,
+        work: &mut [Term],
+        start: usize,
+    ) -> Result<usize, RunFault> {
+        match *self {
+            Calculation::Normalise(list) => rules.load_first(list, work, start),
+            Calculation::Sum(first, second) => {
+                let at = rules.load_first(first, work, start)?;
+                rules.load_second(second, work, at)
+            }
+            Calculation::Difference(first, second) => {
+                let at = rules.load_first(first, work, start)?;
+                rules.load_negated(second, work, at)
+            }
+            Calculation::Product(first, second) => rules.load_products(first, second, work, start),
+        }
+    }
 }

@@ -1,10 +1,11 @@
 // One entry into the kept list: its length, then its code, then the insertion.
-ghost use Rattle.std.specs.Prelude.{◌≡◌, ◌≤◌, length, drop};
-ghost use Rattle.kept.specs.Falling.{Falls};
-ghost use Rattle.run.specs.Entries.{added as addition, at_place};
+ghost use Rattle.std.specs.Prelude.{length, drop};
+ghost use Rattle.kept.specs.Falling.{ListFrom};
+ghost use Rattle.run.specs.Entries.{added as addition, entered};
 ghost use Rattle.run.specs.Post.{Left};
 
 use crate::fault::{Cause, Place, RunFault};
+use crate::rules::Rules;
 use coefficients::fault::RingFault;
 use coefficients::ring::Ring;
 use kept::insert::insert;
@@ -12,48 +13,45 @@ use orders::letter::Row;
 use orders::order::MonomialOrder;
 use words::term::Term;
 
-// The same, or the fault at its place.
-fn placed<T>(r: Result<T, Cause>, place: Place) -> Result<T, RunFault>
-    ensures { result ≡ at_place place r }
-{
-    match r {
-        Ok(x) => Ok(x),
-        Err(cause) => Err(RunFault { cause, place }),
+// The row of a word, unless the word is too long, the answer that gives the code, and the place of a fault.
+#[derive(Clone, Copy)]
+pub struct Entry {
+    pub row: Option<Row>,
+    pub code: Result<u64, RingFault>,
+    pub place: Place,
+}
+
+impl<R: Ring, O: MonomialOrder> Rules<R, O> {
+    // Inserts a row and a code, and answers where the list starts then.
+    fn added(
+        &self,
+        row: Option<Row>,
+        code: Result<u64, RingFault>,
+        work: &mut [Term],
+        start: usize,
+    ) -> Result<usize, Cause>
+        requires { ListFrom (O.model self.now.order) start work.old }
+        ensures { Left (O.model self.now.order) (addition (R.model self.now.ring) (O.model self.now.order) (length work.old) row code (drop start work.old)) start work.old work.new result }
+    {
+        let Some(row) = row else {
+            return Err(Cause::WordTooLong);
+        };
+        let code = code?;
+        Ok(insert(&self.ring, &self.order, work, start, Term { row, code })?)
     }
-}
 
-// Inserts a row and a code, and answers where the list starts then.
-fn added<R: Ring, O: MonomialOrder>(
-    ring: &R,
-    order: &O,
-    work: &mut [Term],
-    start: usize,
-    row: Option<Row>,
-    code: Result<u64, RingFault>,
-) -> Result<usize, Cause>
-    requires { (start ≤ length work.old) × (Falls (O.MonomialOrder.model order.now) (drop start work.old)) }
-    ensures { Left (O.MonomialOrder.model order.now) (addition (R.Ring.model ring.now) (O.MonomialOrder.model order.now) (length work.old) row code (drop start work.old)) start work.old work.new result }
-{
-    let Some(row) = row else {
-        return Err(Cause::WordTooLong);
-    };
-    let code = code?;
-    let at = insert(ring, order, work, start, Term { row, code })?;
-    Ok(at)
-}
-
-// The same, with the place of a fault.
-pub fn add_entry<R: Ring, O: MonomialOrder>(
-    ring: &R,
-    order: &O,
-    work: &mut [Term],
-    start: usize,
-    row: Option<Row>,
-    code: Result<u64, RingFault>,
-    place: Place,
-) -> Result<usize, RunFault>
-    requires { (start ≤ length work.old) × (Falls (O.MonomialOrder.model order.now) (drop start work.old)) }
-    ensures { Left (O.MonomialOrder.model order.now) (at_place place (addition (R.Ring.model ring.now) (O.MonomialOrder.model order.now) (length work.old) row code (drop start work.old))) start work.old work.new result }
-{
-    placed(added(ring, order, work, start, row, code), place)
+    // Inserts an entry, and answers where the list starts then.
+    pub fn add_entry(
+        &self,
+        entry: Entry,
+        work: &mut [Term],
+        start: usize,
+    ) -> Result<usize, RunFault>
+        requires { ListFrom (O.model self.now.order) start work.old }
+        ensures { Left (O.model self.now.order) (entered (R.model self.now.ring) (O.model self.now.order) (length work.old) entry (drop start work.old)) start work.old work.new result }
+    {
+        let Entry { row, code, place } = entry;
+        self.added(row, code, work, start)
+            .map_err(|cause| RunFault { cause, place })
+    }
 }

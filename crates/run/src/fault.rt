@@ -1,6 +1,6 @@
 // Why a run refuses, and where.
 ghost use Rattle.std.specs.Prelude.{◌≡◌};
-ghost use Rattle.run.specs.Faults.{cause_of_kept, number_and_layer, run_refusal, loading, stepping, at_step};
+ghost use Rattle.run.specs.Faults.{cause_of_kept, cause_refusal, run_refusal, loading, stepping, at_step};
 ghost use Rattle.run.specs.declared.fault.Cause.TheVariants.{Coefficient};
 
 use coefficients::fault::RingFault;
@@ -86,36 +86,32 @@ impl Place {
     }
 }
 
-impl Cause {
-    fn number_and_layer(&self) -> (u8, u8)
-        ensures { result ≡ number_and_layer self.now }
-    {
-        match self {
-            Cause::Coefficient(f) => {
-                let r = f.refusal();
-                (r.number, r.layer)
-            }
-            Cause::WordTooLong => (11, 2),
-            Cause::WorkFull => (23, 2),
-            Cause::ResultFull => (24, 2),
-            Cause::StepLimit => (25, 2),
+// A cause alone, which has no place.
+impl From<Cause> for Refusal {
+    ghost from_gives = { λ e r. r ≡ cause_refusal e };
+
+    fn from(e: Cause) -> Refusal {
+        match e {
+            Cause::Coefficient(f) => Refusal::from(f),
+            Cause::WordTooLong => Refusal::plain(11, 2),
+            Cause::WorkFull => Refusal::plain(23, 2),
+            Cause::ResultFull => Refusal::plain(24, 2),
+            Cause::StepLimit => Refusal::plain(25, 2),
         }
     }
 }
 
-impl RunFault {
-    pub fn refusal(&self) -> Refusal
-        ensures { result ≡ run_refusal self.now }
-    {
-        let (number, layer) = self.cause.number_and_layer();
-        let Place { step, a, b, e } = self.place;
+impl From<RunFault> for Refusal {
+    ghost from_gives = { λ e r. r ≡ run_refusal e };
+
+    fn from(e: RunFault) -> Refusal {
+        let Place { step, a, b, e: f } = e.place;
         Refusal {
-            number,
-            layer,
             step,
             a,
             b,
-            e,
+            e: f,
+            ..Refusal::from(e.cause)
         }
     }
 }

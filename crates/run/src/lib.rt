@@ -7,5 +7,7 @@ pub mod entry;
 pub mod fault;
 pub mod load;
 pub mod relation;
-pub mod step;
+pub mod rules;
+pub mod source;
+mod step;
 pub mod substitute;

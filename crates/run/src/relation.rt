@@ -6,7 +6,8 @@ use words::term::Term;
 // The most terms that a tail has.
 pub const TAIL_TERMS: usize = 8;
 
-// x_j x_i = factor · x_i x_j + the first `count` terms of `tail`
+// x_j x_i = factor · x_i x_j + the first `count` terms of `tail`. Tables are arrays that are copied, with no memory beside them, so each tail
+// stands in its relation.
 #[derive(Clone, Copy)]
 pub struct Relation {
     factor: u64,

@@ -1,10 +1,10 @@
 // Rows of words that are made of other words: letters, then zeros, whatever stands behind the letters of the rows that they come from.
-ghost use Rattle.std.specs.Prelude.{◌≡◌, ◌+◌, ◌<◌, ◌≤◌, [], ◌∷◌, ◌++◌, length, Some, slice_index};
+ghost use Rattle.std.specs.Prelude.{◌≡◌, ◌+◌, ◌≤◌, [], ◌∷◌, ◌++◌, length, Some, slice_index};
 ghost use Rattle.std.proofs.Math.Seq.{paste};
 ghost use Rattle.orders.specs.Letters.{letters};
 ghost use Rattle.run.specs.Pieces.{around, rowed, zeros};
 
-use orders::letter::{ROW_LENGTH, Row};
+use orders::letter::{Letter, ROW_LENGTH, Row};
 use words::row::row_length;
 
 fn zero_row() -> Row
@@ -64,21 +64,21 @@ pub(crate) fn substituted_row(row: &Row, k: usize, middle: &Row) -> Option<Row>
 }
 
 // The letters at k and k + 1.
-pub(crate) fn letter_pair(row: &Row, k: usize) -> (u8, u8)
+pub(crate) fn letter_pair(row: &Row, k: usize) -> (Letter, Letter)
     requires { k + 2 ≤ length (letters row.now) }
-    ensures left { (result.0 ≡ slice_index (letters row.now) k) × ((0 < result.0) × (result.0 ≤ 8)) }
-    ensures right { (result.1 ≡ slice_index (letters row.now) (k + 1)) × ((0 < result.1) × (result.1 ≤ 8)) }
+    ensures left { result.0.number ≡ slice_index (letters row.now) k }
+    ensures right { result.1.number ≡ slice_index (letters row.now) (k + 1) }
 {
-    (row[k], row[k + 1])
+    (Letter::at(row, k), Letter::at(row, k + 1))
 }
 
 // The row of a word in which the letters at k and k + 1, j and i, are exchanged.
-pub(crate) fn exchanged_row(row: &Row, k: usize, j: u8, i: u8) -> Row
+pub(crate) fn exchanged_row(row: &Row, k: usize, j: Letter, i: Letter) -> Row
     requires { k + 2 ≤ length (letters row.now) }
-    ensures { Some result ≡ rowed (around (letters row.now) k (i ∷ j ∷ [])) }
+    ensures { Some result ≡ rowed (around (letters row.now) k (i.number ∷ j.number ∷ [])) }
 {
     let mut new = clean_row(row);
-    new[k] = i;
-    new[k + 1] = j;
+    new[k] = i.number();
+    new[k + 1] = j.number();
     new
 }

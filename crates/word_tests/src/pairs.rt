@@ -15,7 +15,7 @@ fn word(n: u64) -> Result<Word, WordFault> {
     row[0] = (n % 9) as u8;
     row[1] = (n / 9 % 9) as u8;
     row[2] = (n / 81 % 9) as u8;
-    Word::from_row(row)
+    Word::try_from(row)
 }
 
 // What decides between words, in its order.
@@ -87,9 +87,9 @@ fn lex(rt: HostRuntime) {
 
 #[test]
 fn degree(rt: HostRuntime) -> Result<(), Fail> {
-    let mut weights = [Weight::new(1)?; 8];
+    let mut weights = [Weight::try_from(1)?; 8];
     for i in 0..8usize {
-        weights[i] = Weight::new(WEIGHTS[i] as u64)?;
+        weights[i] = Weight::try_from(WEIGHTS[i] as u64)?;
     }
     agrees(&rt, &Degree::new(weights), &WEIGHTS);
     Ok(())

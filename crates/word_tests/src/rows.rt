@@ -16,11 +16,11 @@ fn row(a: u8, b: u8, c: u8) -> [u8; 32] {
 #[test]
 fn accepted(rt: HostRuntime) -> Result<(), Fail> {
     for (a, b, c, n) in [(0, 0, 0, 0), (8, 0, 0, 1), (1, 8, 0, 2), (8, 1, 8, 3)] {
-        let word = Word::from_row(row(a, b, c))?;
+        let word = Word::try_from(row(a, b, c))?;
         assert_eq!(rt; word.row(), row(a, b, c));
         assert_eq!(rt; word.len(), n);
     }
-    assert_eq!(rt; Word::from_row([8; 32])?.len(), 32);
+    assert_eq!(rt; Word::try_from([8; 32])?.len(), 32);
     Ok(())
 }
 
@@ -35,9 +35,9 @@ fn refused(rt: HostRuntime) {
         (1, 255, 0),
         (0, 9, 0),
     ] {
-        assert!(rt; Word::from_row(row(a, b, c)).is_err());
+        assert!(rt; Word::try_from(row(a, b, c)).is_err());
     }
-    assert_eq!(rt; WordFault::NoWord.refusal(), Refusal::plain(2, 3));
+    assert_eq!(rt; Refusal::from(WordFault::NoWord), Refusal::plain(2, 3));
 }
 
 #[test]
@@ -53,8 +53,8 @@ fn growth(rt: HostRuntime) {
     assert_eq!(rt; word.push(9), Err(WordFault::BadLetter));
     assert_eq!(rt; word.push(1), Err(WordFault::TooLong));
     assert_eq!(rt; word.row(), [8; 32]);
-    assert_eq!(rt; WordFault::BadLetter.refusal(), Refusal::plain(2, 3));
-    assert_eq!(rt; WordFault::TooLong.refusal(), Refusal::plain(11, 2));
+    assert_eq!(rt; Refusal::from(WordFault::BadLetter), Refusal::plain(2, 3));
+    assert_eq!(rt; Refusal::from(WordFault::TooLong), Refusal::plain(11, 2));
 }
 
 #[test]
@@ -66,7 +66,7 @@ fn inversions(rt: HostRuntime) -> Result<(), Fail> {
         (3, 2, 1, 3, Some(0)),
         (2, 3, 1, 2, Some(1)),
     ] {
-        let word = Word::from_row(row(a, b, c))?;
+        let word = Word::try_from(row(a, b, c))?;
         assert_eq!(rt; word.inversions(), n);
         assert_eq!(rt; word.leftmost_inversion(), place);
         assert_eq!(rt; word.is_standard(), place == None);

@@ -5,11 +5,11 @@ use std::test::Fail;
 
 #[test]
 fn limits(rt: HostRuntime) -> Result<(), Fail> {
-    assert_eq!(rt; Weight::new(1)?.value(), 1);
-    assert_eq!(rt; Weight::new(255)?.value(), 255);
+    assert_eq!(rt; Weight::try_from(1)?.value(), 1);
+    assert_eq!(rt; Weight::try_from(255)?.value(), 255);
     for n in [0, 256, 4294967296, 18446744073709551615] {
-        assert_eq!(rt; Weight::new(n), Err(WeightOutOfRange));
+        assert_eq!(rt; Weight::try_from(n), Err(WeightOutOfRange));
     }
-    assert_eq!(rt; WeightOutOfRange.refusal(), Refusal::plain(9, 1));
+    assert_eq!(rt; Refusal::from(WeightOutOfRange), Refusal::plain(9, 1));
     Ok(())
 }

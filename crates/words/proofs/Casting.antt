@@ -1,5 +1,5 @@
 -- Inversions in one pass: the letters so far are bytes of one number, and casting out 255 adds up the bytes of the larger letters.
-use Rattle.std.proofs.Common.{◌≡◌, ℕ, zero, suc, ◌+◌, ◌-◌, ◌*◌, ◌%◌, ◌^◌, ◌<◌, ◌≤◌, Bool, true, cond, ltb, List, [], ◌∷◌, length, get_or, drop, sym, refl, ap, ◌∙◌, ap₂, ⊎_elim, mod-lt, mod-eq_of_lt, mul_assoc, mul_comm, pow-suc, mul-add, arith, pow-add}
+use Rattle.std.proofs.Common.{◌≡◌, ℕ, zero, suc, ◌+◌, ◌-◌, ◌*◌, ◌%◌, ◌^◌, ◌<◌, ◌≤◌, Bool, true, cond, ltb, List, [], ◌∷◌, length, get_or, drop, sym, refl, ap, ◌∙◌, subst, ap₂, ⊎_elim, mod-lt, mod-eq_of_lt, mul_assoc, mul_comm, pow-suc, mul-add, arith, pow-add}
 use native.Mathlib.Nat.{mul-add-mod_self_left, mul-add-mod_self_right, add-mod, one-le-pow}
 use lib.Bits.{bit_and}
 use Rattle.std.proofs.lemmas.Bool.{cases_eq, cases_Bool, ltb-true, ltb-false}
@@ -214,16 +214,17 @@ shifted_le x t =
     let l = unit_le x b.0 in
     omega arith
 
-pub counted_next : (k i s n m t : ℕ) (row : List ℕ) → is_letter (get_or row i 0) ≡ true → i < length row → i < 255 → pairs (i + 1) ≤ 254 + 253 * k → m ≤ 256 ^ 7 * i
-    → Counted k i s n m (letters (drop i row)) t
-    → (m + bit_and s (shifted (get_or row i 0) - 1) ≤ 256 ^ 7 * (i + 1))
-    × Counted k (i + 1) (s + shifted (get_or row i 0)) n (m + bit_and s (shifted (get_or row i 0) - 1)) (letters (drop (i + 1) row)) t
-counted_next k i s n m t row y l r f b c =
-    let x = get_or row i 0 in
+-- one letter more of a row, whose number is x and which is followed by the place j
+pub counted_next : (k i j s n m t x : ℕ) (row : List ℕ) → x ≡ get_or row i 0 → j ≡ i + 1 → is_letter x ≡ true → i < length row → i < 255 → pairs (i + 1) ≤ 254 + 253 * k
+    → m ≤ 256 ^ 7 * i → Counted k i s n m (letters (drop i row)) t
+    → (m + bit_and s (shifted x - 1) ≤ 256 ^ 7 * j) × Counted k j (s + shifted x) n (m + bit_and s (shifted x - 1)) (letters (drop j row)) t
+counted_next k i j s n m t x row here after y l r f b c =
     let e = unit_of x (letter_bounds x y).1 in
     let a : bit_and s (shifted x - 1) ≡ s % 2 ^ (64 - 8 * x) = ap (λ n. bit_and s (n - 1)) (shifted_is x y) ∙ and_mask s (64 - 8 * x) in
     let d = a ∙ ap (λ n. s % n) e in
     let g = mod-lt s {m = 256 ^ (8 - x)} (one-le-pow (8 - x) 256 (omega arith)) in
     let h = unit_le x (letter_bounds x y).0 in
-    let more = counted_more k i s n m x (shifted x) (bit_and s (shifted x - 1)) t (letters (drop i row)) (letters (drop (i + 1) row)) y (letters-go row i l y) r f (shifted_is x y ∙ e) d c in
-    (omega arith, more)
+    let w = letters (drop (i + 1) row) in
+    let v : letters (drop i row) ≡ x ∷ w = letters-go row i l (ap is_letter (sym here) ∙ y) ∙ ap (λ z. z ∷ w) (sym here) in
+    let more = counted_more k i s n m x (shifted x) (bit_and s (shifted x - 1)) t (letters (drop i row)) w y v r f (shifted_is x y ∙ e) d c in
+    subst (λ j. (m + bit_and s (shifted x - 1) ≤ 256 ^ 7 * j) × Counted k j (s + shifted x) n (m + bit_and s (shifted x - 1)) (letters (drop j row)) t) (sym after) (omega arith, more)

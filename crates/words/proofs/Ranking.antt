@@ -32,5 +32,9 @@ words_ordered o = record {
   transitive = λ u v w _ _ _ h k. compare_rank o u w ∙ difference_less (rank o u) (rank o v) (rank o w) (sym (compare_rank o u v) ∙ h) (sym (compare_rank o v w) ∙ k);
 }
 
-pub same-words : (o : OrderModel) (u v : List ℕ) → first_difference u v ≡ Equal → compare_words o u v ≡ Equal
-same-words o u v h = ap (compare_words o u) (sym (difference-equal u v h)) ∙ (words_ordered o).reflexive u tt
+-- a word ties with itself
+pub same_ties : (u v : List ℕ) → first_difference u v ≡ Equal → compare_ties u v ≡ Equal
+same_ties u v h =
+    ap (compare_ties u) (sym (difference-equal u v h))
+    ∙ sym (numbers-then (inversions u) (inversions u) Equal (first_difference u u))
+    ∙ difference-same (inversions u ∷ u)

@@ -3,9 +3,9 @@
 ghost use Rattle.std.specs.Prelude.{◌≡◌};
 ghost use Rattle.orders.specs.Images.{counts};
 ghost use Rattle.orders.specs.Letters.{letters, image as image_of};
-ghost use Rattle.words.specs.Compare.{compare_words};
+ghost use Rattle.words.specs.Compare.{compare_ties as ties, compare_words};
 
-use crate::row::{by_numbers, first_letter_difference, row_inversions};
+use crate::row::{first_letter_difference, row_inversions};
 use orders::image::Image;
 use orders::letter::Row;
 use orders::order::MonomialOrder;
@@ -30,16 +30,20 @@ impl Measured {
     pub fn compare_with<O: MonomialOrder>(&self, order: &O, other: &Row) -> Ordering
         ensures { result ≡ compare_words (O.model order.now) (letters self.now.row) (letters other.now) }
     {
-        let by_image = order.compare(&self.image, &Image::of_row(other));
-        match by_image {
-            Ordering::Equal => {
-                let by_letters = first_letter_difference(&self.row, other);
-                match by_letters {
-                    Ordering::Equal => Ordering::Equal,
-                    _ => by_numbers(row_inversions(&self.row), row_inversions(other), by_letters),
-                }
-            }
-            _ => by_image,
-        }
+        order
+            .compare(&self.image, &Image::of_row(other))
+            .then_with(|| compare_ties(&self.row, other))
     }
+}
+
+// Words of one image: equal words have equally many inversions.
+#[tactic(auto, using(crate::proofs::Ranking::same_ties))]
+fn compare_ties(a: &Row, b: &Row) -> Ordering
+    ensures { result ≡ ties (letters a.now) (letters b.now) }
+{
+    let by_letters = first_letter_difference(a, b);
+    if by_letters.is_eq() {
+        return Ordering::Equal;
+    }
+    row_inversions(a).cmp(&row_inversions(b)).then(by_letters)
 }

@@ -1,13 +1,13 @@
 // What is asked of the word that a plain row holds.
 ghost use Rattle.std.specs.Prelude.{◌≡◌, ◌≤◌, length, if◌then◌else◌};
 ghost use Rattle.orders.specs.Letters.{letters, is_letter, row_places};
-ghost use Rattle.orders.specs.Orders.{first_difference, numbers};
+ghost use Rattle.orders.specs.Orders.{first_difference};
 ghost use Rattle.words.specs.Compare.{compare_words};
 ghost use Rattle.words.specs.Inversions.{inversions as inversions_of, standard, leftmost_inversion};
 ghost use Rattle.words.specs.Laws.{StandardWords};
 
-use orders::image::Image;
-use orders::letter::{ROW_LENGTH, Row, is_letter};
+use crate::measured::Measured;
+use orders::letter::{Row, is_letter};
 use orders::order::MonomialOrder;
 use std::cmp::Ordering;
 
@@ -16,14 +16,7 @@ pub fn row_length(row: &Row) -> usize
     ensures value { result ≡ length (letters row.now) }
     ensures bound { result ≤ row_places }
 {
-    let mut n = 0;
-    for x in row {
-        if !is_letter(*x) {
-            return n;
-        }
-        n += 1;
-    }
-    n
+    row.iter().take_while(|x| is_letter(**x)).count()
 }
 
 // The letters before this place have at most 253 inversions, and those from it to the end of a row add at most 243.
@@ -38,23 +31,21 @@ pub fn row_inversions(row: &Row) -> usize
 {
     let mut seen = 0u64;
     let mut sum = 0u64;
-    for i in 0..REDUCE_AT {
-        let x = row[i];
-        if !is_letter(x) {
+    for x in &row[..REDUCE_AT] {
+        if !is_letter(*x) {
             return (sum % 255) as usize;
         }
-        let unit = 1u64 << (64 - 8 * x);
+        let unit = 1u64 << (64 - 8 * *x);
         sum += seen & (unit - 1);
         seen += unit;
     }
     let n = (sum % 255) as usize;
     sum = 0;
-    for j in REDUCE_AT..ROW_LENGTH {
-        let y = row[j];
-        if !is_letter(y) {
+    for y in &row[REDUCE_AT..] {
+        if !is_letter(*y) {
             return n + (sum % 255) as usize;
         }
-        let unit = 1u64 << (64 - 8 * y);
+        let unit = 1u64 << (64 - 8 * *y);
         sum += seen & (unit - 1);
         seen += unit;
     }
@@ -65,28 +56,17 @@ pub fn row_inversions(row: &Row) -> usize
 pub fn row_leftmost_inversion(row: &Row) -> Option<usize>
     ensures { result ≡ leftmost_inversion (letters row.now) }
 {
-    if !is_letter(row[0]) {
-        return None;
-    }
-    for i in 1..ROW_LENGTH {
-        if !is_letter(row[i]) {
-            return None;
-        }
-        if row[i] < row[i - 1] {
-            return Some(i - 1);
-        }
-    }
-    None
+    row.iter()
+        .zip(row[1..].iter())
+        .take_while(|(x, y)| is_letter(**x) && is_letter(**y))
+        .position(|(x, y)| x > y)
 }
 
 // Whether the letters never fall from left to right.
 pub fn row_is_standard(row: &Row) -> bool
     ensures { result ≡ standard (letters row.now) }
 {
-    match row_leftmost_inversion(row) {
-        None => true,
-        Some(_) => false,
-    }
+    row_leftmost_inversion(row).is_none()
 }
 
 // Later image, then more inversions, then the larger letter at the first difference. Inversions are counted only for different words of
@@ -94,30 +74,7 @@ pub fn row_is_standard(row: &Row) -> bool
 pub fn compare_rows<O: MonomialOrder>(order: &O, a: &Row, b: &Row) -> Ordering
     ensures { result ≡ compare_words (O.model order.now) (letters a.now) (letters b.now) }
 {
-    let by_image = order.compare(&Image::of_row(a), &Image::of_row(b));
-    match by_image {
-        Ordering::Equal => {
-            let by_letters = first_letter_difference(a, b);
-            match by_letters {
-                Ordering::Equal => Ordering::Equal,
-                _ => by_numbers(row_inversions(a), row_inversions(b), by_letters),
-            }
-        }
-        _ => by_image,
-    }
-}
-
-// By two numbers, and where they are the same as the rest says.
-pub(crate) fn by_numbers(m: usize, n: usize, rest: Ordering) -> Ordering
-    ensures { result ≡ numbers m n rest }
-{
-    if m < n {
-        return Ordering::Less;
-    }
-    if m > n {
-        return Ordering::Greater;
-    }
-    rest
+    Measured::new(*a).compare_with(order, b)
 }
 
 fn letter_or_zero(x: u8) -> u8
@@ -130,14 +87,12 @@ fn letter_or_zero(x: u8) -> u8
 pub(crate) fn first_letter_difference(a: &Row, b: &Row) -> Ordering
     ensures { result ≡ first_difference (letters a.now) (letters b.now) }
 {
-    for i in 0..ROW_LENGTH {
-        if a[i] != b[i] {
-            let x = letter_or_zero(a[i]);
-            let y = letter_or_zero(b[i]);
-            return by_numbers(x as usize, y as usize, Ordering::Equal);
+    for (x, y) in a.iter().zip(b.iter()) {
+        if x != y {
+            return letter_or_zero(*x).cmp(&letter_or_zero(*y));
         }
-        if !is_letter(a[i]) {
-            return Ordering::Equal;
+        if !is_letter(*x) {
+            break;
         }
     }
     Ordering::Equal

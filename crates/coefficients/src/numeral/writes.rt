@@ -5,20 +5,16 @@ ghost use Rattle.coefficients.specs.Numerals.{radix as radix_of, numeral, signed
 
 use crate::numeral::Base;
 
-// Eighty zeros.
-fn clear(out: &mut [u8; 80])
-    ensures { out.new ≡ replicate 80 0 }
-{
-    *out = [0; 80];
-}
-
 // Puts the numeral of n at the end of eighty zeros, and answers where it begins.
-fn spell(radix: u64, n: u64, out: &mut [u8; 80]) -> usize
-    requires { (2 ≤ radix) × ((radix ≤ 10) × (out.old ≡ replicate 80 0)) }
-    ensures bytes { out.new ≡ replicate result 0 ++ numeral radix n }
-    ensures bound { (1 ≤ result) × (result ≤ 80) }
+fn spell(base: Base, n: u64, out: &mut [u8; 80]) -> usize
+    requires { out.old ≡ replicate 80 0 }
+    ensures bytes { out.new ≡ replicate result 0 ++ numeral (radix_of base) n }
+    ensures least { 1 ≤ result }
+    ensures greatest { result ≤ 80 }
 {
+    let radix = base.radix();
     let mut rest = n;
+    // digits are worked out from the last to the first, and the place of the first is answered
     let mut at = 80usize;
     while rest >= radix {
         at -= 1;
@@ -35,8 +31,8 @@ pub fn write_numeral(base: Base, minus: bool, n: u64, out: &mut [u8; 80]) -> usi
     ensures bytes { out.new ≡ filled (signed_numeral (radix_of base) minus n) }
     ensures len { result ≡ length (signed_numeral (radix_of base) minus n) }
 {
-    clear(out);
-    let mut at = spell(base.radix(), n, out);
+    *out = [0; 80];
+    let mut at = spell(base, n, out);
     if minus {
         at -= 1;
         out[at] = b'-';

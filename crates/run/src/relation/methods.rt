@@ -1,8 +1,9 @@
 // How relations are made, and what is asked of them.
-ghost use Rattle.std.specs.Prelude.{◌≡◌, ◌<◌, ◌≤◌, length, IfSome, MatchOption};
+ghost use Rattle.std.specs.Prelude.{◌≡◌, ◌<◌, length, IfSome, MatchOption};
 ghost use Rattle.run.specs.Relations.{relation_of, tail_of, made_relation};
 
 use crate::relation::{Relation, TAIL_TERMS, Table};
+use orders::letter::Letter;
 use words::term::Term;
 
 impl Relation {
@@ -37,12 +38,11 @@ impl Relation {
     }
 
     // The relation of x_j x_i.
-    pub fn of_pair(table: &Table, j: u8, i: u8) -> &Relation
-        requires { (0 < j) × ((j ≤ 8) × ((0 < i) × (i ≤ 8))) }
-        ensures { result.now ≡ relation_of table.now j i }
+    pub fn of_pair(table: &Table, j: Letter, i: Letter) -> &Relation
+        ensures { result.now ≡ relation_of table.now j.number i.number }
     {
-        let j = j as usize;
-        let i = i as usize;
+        let j = j.number() as usize;
+        let i = i.number() as usize;
         let place = 8 * (j - 1) + (i - 1);
         &table[place]
     }

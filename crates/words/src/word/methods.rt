@@ -1,5 +1,5 @@
 // How words are made and grow, and what is asked of them.
-ghost use Rattle.std.specs.Prelude.{◌≡◌, ◌≤◌, true, false, [], length, MatchResult};
+ghost use Rattle.std.specs.Prelude.{◌≡◌, ◌≤◌, [], length};
 ghost use Rattle.orders.specs.Letters.{image as image_of, row_places};
 ghost use Rattle.orders.specs.Images.{counts};
 ghost use Rattle.words.specs.Compare.{compare_words};
@@ -8,24 +8,23 @@ ghost use Rattle.words.specs.Growth.{grown, answer, value_or};
 ghost use Rattle.words.specs.Inversions.{inversions as inversions_of, standard, leftmost_inversion};
 ghost use Rattle.words.specs.Laws.{WordsOrdered};
 ghost use Rattle.words.specs.Rows.{is_row, row_of};
-ghost use Rattle.words.specs.Spelled.{spelled};
-ghost use Rattle.words.specs.declared.word.WordFault.TheVariants.{NoWord};
+ghost use Rattle.words.specs.Spelled.{HeldBy, spelled};
 
 use crate::row::{
     compare_rows, row_inversions, row_is_standard, row_leftmost_inversion, row_length,
 };
 use crate::word::{Word, WordFault};
 use orders::image::Image;
-use orders::letter::{LETTERS, ROW_LENGTH, Row, is_letter};
+use orders::letter::{Letter, ROW_LENGTH, Row, is_letter};
 use orders::order::MonomialOrder;
 use refusals::Refusal;
 use std::cmp::Ordering;
 
-impl WordFault {
-    pub fn refusal(&self) -> Refusal
-        ensures { result ≡ refusal_of self.now }
-    {
-        match self {
+impl From<WordFault> for Refusal {
+    ghost from_gives = { λ fault refusal. refusal ≡ refusal_of fault };
+
+    fn from(fault: WordFault) -> Refusal {
+        match fault {
             WordFault::NoWord | WordFault::BadLetter => Refusal::plain(2, 3),
             WordFault::TooLong => Refusal::plain(11, 2),
         }
@@ -36,16 +35,21 @@ impl WordFault {
 fn holds_word(row: &Row) -> bool
     ensures { result ≡ is_row row.now }
 {
-    let mut ended = false;
-    for x in row {
-        if ended || !is_letter(*x) {
-            if *x != 0 {
-                return false;
-            }
-            ended = true;
+    row.iter().skip_while(|x| is_letter(**x)).all(|x| *x == 0)
+}
+
+impl TryFrom<Row> for Word {
+    type Error = WordFault;
+
+    ghost try_from_gives = { HeldBy };
+
+    fn try_from(row: Row) -> Result<Word, WordFault> {
+        if holds_word(&row) {
+            Ok(Word { row })
+        } else {
+            Err(WordFault::NoWord)
         }
     }
-    true
 }
 
 impl Word {
@@ -57,29 +61,18 @@ impl Word {
         }
     }
 
-    pub fn from_row(row: Row) -> Result<Word, WordFault>
-        ensures { MatchResult result (λ w. (is_row row ≡ true) × (w.row ≡ row)) (λ e. (is_row row ≡ false) × (e ≡ NoWord)) }
-    {
-        if holds_word(&row) {
-            Ok(Word { row })
-        } else {
-            Err(WordFault::NoWord)
-        }
-    }
-
     // One letter more at the end; a refusal leaves the word as it was.
+    #[tactic(auto, using(crate::proofs::Filling::row_push, crate::proofs::Filling::letters_push))]
     pub fn push(&mut self, letter: u64) -> Result<(), WordFault>
         ensures answer { result ≡ answer (grown (spelled self.old) letter) }
         ensures after { spelled self.new ≡ value_or (spelled self.old) (grown (spelled self.old) letter) }
     {
-        if letter == 0 || letter > LETTERS as u64 {
-            return Err(WordFault::BadLetter);
-        }
+        let letter = Letter::new(letter).ok_or(WordFault::BadLetter)?;
         let n = self.len();
         if n >= ROW_LENGTH {
             return Err(WordFault::TooLong);
         }
-        self.row[n] = letter as u8;
+        self.row[n] = letter.number();
         Ok(())
     }
 

@@ -1,6 +1,5 @@
-use Rattle.std.proofs.Common.{◌≡◌, ℕ, true, false, eqb, List, [], ◌∷◌, length, Ok, Err, refl, ap, ◌∙◌, arith}
+use Rattle.std.proofs.Common.{◌≡◌, ℕ, true, false, eqb, List, [], ◌∷◌, length, Ok, Err, refl, ap, ◌∙◌, arith, rules}
 use Rattle.std.proofs.lemmas.Bool.Decides.{nat_tests}
-use Rattle.std.proofs.lemmas.Result.{err_from_is_err_and}
 use Rattle.grammar.specs.declared.fault.FormFault.TheVariants.{Unreadable}
 use Rattle.grammar.specs.Forms.{Form}
 use Rattle.grammar.specs.FormReader.{whole}
@@ -12,8 +11,8 @@ returns-then-line-gt-LINE_LENGTH c = long c.args.line.now (omega arith)
 
 pub returns-in_err-read : goal.returns-in_err-read
 returns-in_err-read c =
-    let p = err_from_is_err_and c.from_residual.result c.from_residual.ensures.1 in
-    rw (p.1, p.2) (short c.args.line.now (omega arith) ∙ ap whole c.in_err-read.ensures)
+    let h = short c.args.line.now (omega arith) ∙ ap whole c.in_err-read.ensures in
+    search rules
 
 -- nothing stands behind the form, or something does
 nothing : (f : Form) (rest : List ℕ) → true ≡ eqb (length rest) 0 → whole (Ok (f, rest)) ≡ Ok f

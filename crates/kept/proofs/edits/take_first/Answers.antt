@@ -8,6 +8,6 @@ returns c =
     let s = c.args.start in
     record {
       value = search rules;
-      list = drop-set-lt (s + 1) xs s c.blank.result (omega arith);
-      rest = take_more_set xs s c.blank.result (omega arith) ∙ ap (λ x. take s xs ++ x ∷ []) c.blank.ensures;
+      list = drop-set-lt (s + 1) xs s c.replace.new.dest (omega arith);
+      rest = take_more_set xs s c.replace.new.dest (omega arith) ∙ ap (λ x. take s xs ++ x ∷ []) (c.replace.ensures.after ∙ c.blank.ensures);
     }

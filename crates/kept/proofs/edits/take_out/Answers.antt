@@ -1,5 +1,6 @@
-use Rattle.std.proofs.Common.{◌+◌, ◌-◌, [], ◌∷◌, ◌++◌, take, ap, ◌∙◌, arith}
-use Rattle.kept.proofs.Memory.{out_list, out_rest}
+use Rattle.std.proofs.Common.{◌+◌, ◌-◌, [], ◌∷◌, ◌++◌, ap, ◌∙◌, arith}
+use Rattle.words.specs.Terms.{blank}
+use Rattle.kept.proofs.Memory.{out_list, take_part}
 use Rattle.kept.proofs.edits.take_out.Goals as goal
 
 pub returns : goal.returns
@@ -7,9 +8,8 @@ returns c =
     let xs = c.args.work.now in
     let s = c.args.start in
     let p = c.args.p in
-    let b = c.blank.result in
+    let ys = c.rotate_right.new.self in
     record {
-      list = out_list xs c.rotate_right.new.self s p (p + 1 - s) b (omega arith) (omega arith) (omega arith) c.rotate_right.ensures.after;
-      rest = out_rest xs c.rotate_right.new.self s p (p + 1 - s) b (omega arith) (omega arith) (omega arith) c.rotate_right.ensures.len
-          ∙ ap (λ x. take s xs ++ x ∷ []) c.blank.ensures;
+      list = c.take_first.ensures.list ∙ out_list xs ys s p (p + 1 - s) (omega arith) (omega arith) (omega arith) c.rotate_right.ensures.after;
+      rest = c.take_first.ensures.rest ∙ ap (λ l. l ++ blank ∷ []) (take_part xs ys s (p + 1 - s) (omega arith));
     }

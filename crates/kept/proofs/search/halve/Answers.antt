@@ -12,10 +12,8 @@ loop-low-preserved-in-Less g c = (
 )
 
 pub returns-in-Equal : goal.returns-in-Equal
-returns-in-Equal g c = record {
-  bounds = found_here (g.O.MonomialOrder.model c.args.order.now) c.args.work.now c.args.start c.args.t.now _ (omega arith) (omega arith) c.in-Equal.ensures;
-  narrow = tt;
-}
+returns-in-Equal g c =
+    found_here (g.O.MonomialOrder.model c.args.order.now) c.args.work.now c.args.start c.args.t.now _ (omega arith) (omega arith) c.in-Equal.ensures
 
 pub loop-low-preserved : goal.loop-low-preserved
 loop-low-preserved g c = (

@@ -6,4 +6,5 @@ use Rattle.run.proofs.substitute.exchanged_row.Goals as goal
 pub returns : goal.returns
 returns c =
     let l = letters_le c.args.row.now in
-    exchanged c.args.row.now c.clean_row-new.result c.args.k c.args.i c.args.j c.clean_row-new.ensures c.requires (omega arith)
+    rw (← c.number.ensures.value, ← c.number-2.ensures.value)
+    (exchanged c.args.row.now c.clean_row-new.result c.args.k c.number.result c.number-2.result c.clean_row-new.ensures c.requires (omega arith))

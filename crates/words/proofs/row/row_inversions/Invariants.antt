@@ -1,13 +1,13 @@
-use Rattle.std.proofs.Common.{◌*◌, ◌^◌, ◌≤◌, drop}
+use Rattle.std.proofs.Common.{◌+◌, ◌*◌, ◌^◌, ◌≤◌, drop}
 use Rattle.orders.specs.Letters.{letters}
 use Rattle.words.specs.Inversions.{inversions}
 use Rattle.words.proofs.Casting.{Counted}
 use Rattle.words.proofs.row.row_inversions.Given as goal
 
-abbrev pub invariant-loop-i : goal.invariant-loop-i
-invariant-loop-i l =
-    (l.seen ≤ 256 ^ 7 * l.i) × (l.sum ≤ 256 ^ 7 * l.i) × Counted 0 l.i l.seen 0 l.sum (letters (drop l.i l.row)) (inversions (letters l.row))
+abbrev pub invariant-loop-x : goal.invariant-loop-x
+invariant-loop-x l =
+    (l.seen ≤ 256 ^ 7 * l.x-index) × (l.sum ≤ 256 ^ 7 * l.x-index) × Counted 0 l.x-index l.seen 0 l.sum (letters (drop l.x-index l.row)) (inversions (letters l.row))
 
-abbrev pub invariant-loop-j : goal.invariant-loop-j
-invariant-loop-j l =
-    (l.seen ≤ 256 ^ 7 * l.j) × (l.sum ≤ 256 ^ 7 * l.j) × Counted 1 l.j l.seen l.n l.sum (letters (drop l.j l.row)) (inversions (letters l.row))
+abbrev pub invariant-loop-y : goal.invariant-loop-y
+invariant-loop-y l =
+    (l.seen ≤ 256 ^ 7 * (23 + l.y-index)) × (l.sum ≤ 256 ^ 7 * (23 + l.y-index)) × Counted 1 (23 + l.y-index) l.seen l.n l.sum (letters (drop (23 + l.y-index) l.row)) (inversions (letters l.row))

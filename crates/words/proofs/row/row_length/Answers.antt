@@ -1,18 +1,14 @@
-use Rattle.std.proofs.Common.{length, ap, arith}
-use Rattle.orders.proofs.Steps.{letters_stop, letters-go, letters-end}
+use Rattle.std.proofs.Common.{length, ap, ◌∙◌, rules}
+use borrow.Author.Tests.{tests}
+use Rattle.std.proofs.lemmas.Iterator.{YieldsList-from_slice}
+use Rattle.std.proofs.lemmas.Iterator.Consumers.{count_from_yields_List}
+use Rattle.std.proofs.lemmas.Iterator.Search.{YieldsList-from_take_while}
+use Rattle.orders.specs.Letters.{is_letter}
+use Rattle.orders.proofs.Steps.{letters_taken}
 use Rattle.words.proofs.row.row_length.Goals as goal
 
-pub returns-then-not-is_letter : goal.returns-then-not-is_letter
-returns-then-not-is_letter c =
-    let s = ap length (letters_stop c.args.row.now c.loop-x.x-index (omega arith) (cc)) in
-    record { value = omega arith; bound = omega arith }
-
-pub loop-x-preserved : goal.loop-x-preserved
-loop-x-preserved c =
-    let s = ap length (letters-go c.args.row.now c.loop-x.x-index (omega arith) (cc)) in
-    (omega arith, omega arith)
-
-pub returns : goal.returns
-returns c =
-    let s = ap length (letters-end c.args.row.now c.loop-x.x-index (omega arith)) in
-    record { value = omega arith; bound = omega arith }
+pub returns-clause-value : goal.returns-clause-value
+returns-clause-value c =
+    count_from_yields_List _ c.count.result c.count.ensures.ran
+    (YieldsList-from_take_while _ is_letter (YieldsList-from_slice c.args.row.now cc) c.take_while.ensures.closure c.take_while.ensures.done (λ x b q k. search (rules, tests)))
+    ∙ ap length (letters_taken c.args.row.now)

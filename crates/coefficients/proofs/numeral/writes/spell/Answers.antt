@@ -10,7 +10,7 @@ loop-rest-smaller c = div-lt_self (omega arith) (omega arith)
 pub loop-rest-preserved : goal.loop-rest-preserved
 loop-rest-preserved c =
     let h = c.loop-rest.invariant in
-    let b : ℕ = c.args.radix in
+    let b : ℕ = c.radix-radix.result in
     let rest : ℕ = c.loop-rest.rest in
     let low = places-left b rest c.loop-rest.at (omega arith) (omega arith) h.1 h.3 in (
       simp length-set h.0,
@@ -21,10 +21,7 @@ loop-rest-preserved c =
       digit_more b (omega arith) c.loop-rest.out c.loop-rest.at rest _ (omega arith) (omega arith) (omega arith) h.5,
     )
 
-pub returns : goal.returns
-returns c =
+pub returns-clause-bytes : goal.returns-clause-bytes
+returns-clause-bytes c =
     let h = c.loop-rest.invariant in
-    record {
-      bytes = last_digit c.args.radix (omega arith) c.loop-rest.out c.loop-rest.at c.loop-rest.rest _ (omega arith) (omega arith) (omega arith) h.4 h.5;
-      bound = (omega arith, omega arith);
-    }
+    simp (← c.radix-radix.ensures.value) (last_digit c.radix-radix.result (omega arith) c.loop-rest.out c.loop-rest.at c.loop-rest.rest _ (omega arith) (omega arith) (omega arith) h.4 h.5)

@@ -1,41 +1,21 @@
-use Rattle.std.proofs.Common.{◌≡◌, ◌*◌, ◌<◌, ◌≤◌, length, get_or, drop, sym, ap, ◌∙◌, subst, arith}
-use Rattle.std.proofs.lemmas.Nat.{mul-le}
-use Rattle.std.proofs.lemmas.List.{drop_all, get_or-map, length-map}
+use Rattle.std.proofs.Common.{◌^◌, ◌∙◌, ap, arith, rules}
+use Rattle.std.specs.List.{zip}
+use Rattle.std.proofs.iter.Yields.{fronts}
+use Rattle.std.proofs.lemmas.Iterator.{YieldsList-from_slice, YieldsList-from_zip, YieldsList-from_map}
+use Rattle.std.proofs.lemmas.Iterator.Adapters.{fits_from_length, at_most_from_yields_List, at_most_from_Zip}
+use Rattle.std.proofs.lemmas.Iterator.Consumers.{sum_by_from_yields_List}
 use Rattle.orders.specs.Orders.{dot}
 use Rattle.orders.specs.Weights.{weight_values}
-use Rattle.orders.proofs.Weighing.{dot-more, dot-nil, counts_lt}
-use Rattle.orders.specs.Images.{length-counts}
+use Rattle.orders.proofs.Weighing.{weight_of_pair, pairs_dot}
 use Rattle.orders.proofs.degree.Degree.weighted.Goals as goal
 
--- one product is at most 255 times 255
-product : (c : goal.After-value) → c.value.result * get_or c.counts-counts.result c.loop-i.i 0 ≤ 65025
-product c =
-    let b : get_or c.counts-counts.result c.loop-i.i 0 < 256 = subst (λ l. get_or l c.loop-i.i 0 < 256) (sym c.counts-counts.ensures) (counts_lt c.args.image.now c.loop-i.i) in
-    mul-le c.value.result (get_or c.counts-counts.result c.loop-i.i 0) 255 255 (omega arith) (omega arith)
-
-pub overflow_mul-sum : goal.overflow_mul-sum
-overflow_mul-sum c = let p = product c in omega arith
-
-pub overflow_add-sum : goal.overflow_add-sum
-overflow_add-sum c = let p = product c in omega arith
-
-pub loop-i-preserved : goal.loop-i-preserved
-loop-i-preserved c =
-    let p = product c in
-    let ws = c.args.self.now.weights in
-    let l = ap length c.counts-counts.ensures ∙ length-counts c.args.image.now in
-    let i = c.loop-i.i in
-    let m = length-map ws (λ w. w.value) in
-    let e : get_or (weight_values ws) i 0 ≡ c.value.result = get_or-map (λ w. w.value) ws i c.index-self-i.result 0 (omega arith) ∙ sym c.value.ensures in
-    let f = ap (λ x. x * get_or c.counts-counts.result i 0) e in
-    let d = dot-more (weight_values ws) c.counts-counts.result i (omega arith) (omega arith) in
-    (omega arith, omega arith)
+pub sum-requires-clause-fits : goal.sum-requires-clause-fits
+sum-requires-clause-fits c =
+    fits_from_length _ _ 8 (2 ^ 32) (at_most_from_Zip fronts (at_most_from_yields_List (YieldsList-from_slice c.args.self.now.weights cc) (omega arith))) c.map.ensures.closure (omega arith) (λ x r q k. search rules)
 
 pub returns : goal.returns
 returns c =
-    let ws = c.args.self.now.weights in
-    let l = ap length c.counts-counts.ensures ∙ length-counts c.args.image.now in
-    let x = drop_all c.loop-i.i c.counts-counts.result (omega arith) in
-    let z = ap (dot (drop c.loop-i.i (weight_values ws))) x ∙ dot-nil (drop c.loop-i.i (weight_values ws)) in
-    let s : c.loop-i.sum ≡ dot (weight_values ws) c.counts-counts.result = omega arith in
-    s ∙ ap (dot (weight_values ws)) c.counts-counts.ensures
+    sum_by_from_yields_List weight_of_pair (zip c.args.self.now.weights c.counts-counts.result) _ c.sum.result c.sum.ensures.ran
+    (YieldsList-from_map _ weight_of_pair (YieldsList-from_zip (YieldsList-from_slice c.args.self.now.weights cc) (YieldsList-from_slice c.counts-counts.result cc)) c.map.ensures.closure (λ x r q k. search rules))
+    ∙ pairs_dot c.args.self.now.weights c.counts-counts.result
+    ∙ ap (dot (weight_values c.args.self.now.weights)) c.counts-counts.ensures

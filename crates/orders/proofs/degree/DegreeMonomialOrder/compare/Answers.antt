@@ -1,14 +1,13 @@
-use Rattle.std.proofs.Common.{◌∷◌, sym, ap, ◌∙◌}
+use Rattle.std.proofs.Common.{◌≡◌, ◌∷◌, List, ℕ, sym, ap, ◌∙◌}
+use Rattle.std.proofs.lemmas.Bool.{eqb-true}
 use Rattle.orders.specs.Images.{counts}
 use Rattle.orders.specs.Orders.{first_difference, dot}
 use Rattle.orders.specs.Weights.{weight_values}
-use Rattle.orders.proofs.Comparing.{difference-same, difference-equal}
+use Rattle.orders.proofs.Comparing.{difference-same}
 use Rattle.orders.proofs.degree.DegreeMonomialOrder.compare.Goals as goal
 
-pub returns-in-Equal : goal.returns-in-Equal
-returns-in-Equal c =
-    let ws = weight_values c.args.self.now.weights in
-    let u = counts c.args.a.now in
-    let v = counts c.args.b.now in
-    let e = difference-equal u v (sym c.first_difference-by_counts.ensures ∙ c.in-Equal.is) in
-    sym (ap (λ w. first_difference (dot ws u ∷ u) (dot ws w ∷ w)) (sym e) ∙ difference-same (dot ws u ∷ u))
+pub returns-then-eq : goal.returns-then-eq
+returns-then-eq c =
+    let key = λ (p : ℕ). let u : List ℕ = counts (record { packed = p }) in dot (weight_values c.args.self.now.weights) u ∷ u in
+    let e : c.args.a.now.packed ≡ c.args.b.now.packed = eqb-true _ _ (sym c.eq.ensures ∙ c.if-eq.true) in
+    sym (ap (λ p. first_difference (key c.args.a.now.packed) (key p)) (sym e) ∙ difference-same (key c.args.a.now.packed))

@@ -27,9 +27,9 @@ loop-x-preserved c =
     let m = ap packing (letters-go row i (omega arith) t) in
     (omega arith, omega arith)
 
-pub returns : goal.returns
+pub returns-after-loop-x : goal.returns-after-loop-x
 unfolding counts
-returns c =
+returns-after-loop-x c =
     let row = c.args.row.now in
     let e = ap packing (letters-end row c.loop-x.x-index (omega arith)) in
     let p : c.loop-x.packed ≡ packing (letters row) = omega arith in

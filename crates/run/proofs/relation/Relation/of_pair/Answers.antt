@@ -5,4 +5,7 @@ use Rattle.run.proofs.relation.Relation.of_pair.Goals as goal
 
 pub returns : goal.returns
 unfolding relation_of
-returns c = get_or_default c.args.table.now (8 * (c.args.j - 1) + (c.args.i - 1)) c.index-table-place.result null (omega arith)
+returns c =
+    let j = c.number-j.result in
+    let i = c.number-i.result in
+    rw (← c.number-j.ensures.value, ← c.number-i.ensures.value) (get_or_default c.args.table.now (8 * (j - 1) + (i - 1)) c.index-table-place.result null (omega arith))

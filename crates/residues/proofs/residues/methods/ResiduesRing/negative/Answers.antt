@@ -1,5 +1,0 @@
-use Rattle.std.proofs.Common.{mod-eq_of_lt, rules}
-use Rattle.residues.proofs.residues.methods.ResiduesRing.negative.Goals as goal
-
-pub returns : goal.returns
-returns c = search (rules, mod-eq_of_lt)
