@@ -28,9 +28,9 @@ module _ (s : Setting) (cap : ℕ) where
   unfolding run
   run_more ps i d st h = at_drop_more (λ l. run s cap (map shown l) st) ps i d h
 
-  pub run-all : (ps : List Piece) (i : ℕ) (st : Stack) → length ps ≤ i → run_rest (drop i ps) st ≡ Ok st
+  pub run_all : (ps : List Piece) (i : ℕ) (st : Stack) → length ps ≤ i → run_rest (drop i ps) st ≡ Ok st
   unfolding run
-  run-all ps i st h = at_drop_all (λ l. run s cap (map shown l) st) ps i h
+  run_all ps i st h = at_drop_all (λ l. run s cap (map shown l) st) ps i h
 
   -- pieces and then others
   pub run-append : (ps qs : List Shown) (st : Stack) → run s cap (ps ++ qs) st ≡ and_then (run s cap ps st) (λ t. run s cap qs t)
@@ -83,8 +83,8 @@ module _ (s : Setting) (cap : ℕ) where
   expression_worked e h =
       ap (λ r. and_then r only) (expression_runs e [] (omega arith)) ∙ then_assoc (worked_out s e) (λ v. Ok (v ∷ [])) only ∙ then_ok (worked_out s e)
 
-  pub value-worked : (ps : List Shown) (r : Result (List Term) ScriptFault) → r ≡ machine s cap ps → (e : Expr) → ps ≡ postfix e → depth e < cap → r ≡ worked_out s e
-  value-worked ps r answer e is h = answer ∙ ap (machine s cap) is ∙ expression_worked e h
+  pub value_worked : (ps : List Shown) (r : Result (List Term) ScriptFault) → r ≡ machine s cap ps → (e : Expr) → ps ≡ postfix e → depth e < cap → r ≡ worked_out s e
+  value_worked ps r answer e is h = answer ∙ ap (machine s cap) is ∙ expression_worked e h
 
   -- one turn of the loop: what a step left is run on, and its fault is the run's
   pub run_on : (ps : List Piece) (i : ℕ) (d : Piece) (st t : Stack) → i < length ps → step s cap (shown (get_or ps i d)) st ≡ Ok t → run_rest (drop (i + 1) ps) t ≡ run_rest (drop i ps) st

@@ -23,9 +23,9 @@ module _ (frames : List Frame) where
   unfolding held
   held_push n f h = ap (λ l. reverse (map frame_terms l)) (take_more_set frames n f h) ∙ push_reversed (take n frames) f
 
-  pub length-held : (n : ℕ) → n ≤ length frames → length (held n frames) ≡ n
+  pub length_held : (n : ℕ) → n ≤ length frames → length (held n frames) ≡ n
   unfolding held
-  length-held n h = length-reverse (map frame_terms (take n frames)) ∙ length-map (take n frames) frame_terms ∙ length-take-le n frames h
+  length_held n h = length-reverse (map frame_terms (take n frames)) ∙ length-map (take n frames) frame_terms ∙ length-take-le n frames h
 
   pub held_none : (n : ℕ) → n ≡ 0 → held n frames ≡ []
   unfolding held

@@ -83,9 +83,9 @@ module _ (m : Coding) where
       ∙ one_by_one t ts (λ us. Ok (done ++ (term_of w c ∷ us)))
 
   -- the pieces of terms make these terms
-  pub tail-made : (ts : List TermForm) → tail_of m (term_pieces ts) ≡ made_terms m ts
-  tail-made [] = refl
-  tail-made (t ∷ ts) =
+  pub tail_made : (ts : List TermForm) → tail_of m (term_pieces ts) ≡ made_terms m ts
+  tail_made [] = refl
+  tail_made (t ∷ ts) =
       then_same (by_ring (m.read t.coefficient)) (λ c. all_taken m (record { done = []; code = c; word = [] }) (map a_generator t.generators ++ term_pieces ts))
       (λ c. and_then (grown_by [] t.generators) (λ v. and_then (made_terms m ts) (λ us. Ok (term_of v c ∷ us))))
       (λ c. letters-taken [] c [] t.generators (term_pieces ts)

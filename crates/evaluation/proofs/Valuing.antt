@@ -34,9 +34,9 @@ unfolding term_of
 term_is w row c d p q = ap (λ r. record { row = r; code = c }) p ∙ ap (λ k. record { row = row_of w; code = k }) q
 
 -- the value of a leaf from the call that was made
-pub generator-worked : (s : Setting) (x : ℕ) (w v : List ℕ) (u : Unit {0}) (t : Term) (r : Result (List Term) ScriptFault)
+pub generator_worked : (s : Setting) (x : ℕ) (w v : List ℕ) (u : Unit {0}) (t : Term) (r : Result (List Term) ScriptFault)
     → w ≡ [] → Ok u ≡ answer (grown w x) → v ≡ value_or w (grown w x) → t ≡ term_of v s.coding.one → r ≡ normal_form s (t ∷ []) → r ≡ generator_value s x
-generator-worked s x w v u t r none pushed after is got =
+generator_worked s x w v u t r none pushed after is got =
     got ∙ ap (λ y. normal_form s (y ∷ [])) is
     ∙ ap (λ g. and_then (by_word g) (λ z. normal_form s (term_of z s.coding.one ∷ []))) (sym (grown_on w v x u pushed after))
     ∙ ap (λ z. generator_value_of z) none
@@ -44,8 +44,8 @@ generator-worked s x w v u t r none pushed after is got =
     generator_value_of : List ℕ → Result (List Term) ScriptFault
     generator_value_of z = and_then (by_word (grown z x)) (λ y. normal_form s (term_of y s.coding.one ∷ []))
 
-pub coefficient-worked : (s : Setting) (a : List ℕ) (c : ℕ) (t : Term) (r : Result (List Term) ScriptFault)
+pub coefficient_worked : (s : Setting) (a : List ℕ) (c : ℕ) (t : Term) (r : Result (List Term) ScriptFault)
     → Ok c ≡ s.coding.read a → t ≡ term_of [] c → r ≡ normal_form s (t ∷ []) → r ≡ coefficient_value s a
-coefficient-worked s a c t r read is got =
+coefficient_worked s a c t r read is got =
     got ∙ ap (λ y. normal_form s (y ∷ [])) is
     ∙ ap (λ g. and_then (by_ring g) (λ d. normal_form s (term_of [] d ∷ []))) read

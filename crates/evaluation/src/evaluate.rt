@@ -18,6 +18,7 @@ use orders::order::MonomialOrder;
 use words::term::Term;
 
 // One piece: a leaf is one value more, a join one for the last two.
+#[tactic(auto, using(crate::proofs::Stepping::leaf_full, crate::proofs::Stepping::leaf_refused, crate::proofs::Stepping::leaf_done, crate::proofs::Stepping::nothing_to_join, crate::proofs::Stepping::one_to_join, crate::proofs::Stepping::join_refused, crate::proofs::Stepping::join_done), unfolding(crate::specs::Machine::step))]
 fn step<R: Ring, O: MonomialOrder>(
     bench: &mut Workbench<R, O>,
     piece: Piece,
@@ -49,6 +50,7 @@ fn step<R: Ring, O: MonomialOrder>(
 
 // What the pieces come to: those of an expression are worked out from the left, inner first, each operand joined to those before it. Any
 // memory does; one frame more than brackets nest is enough.
+#[tactic(auto, using(crate::proofs::Running::rest_same, crate::proofs::Running::run_on, crate::proofs::Running::run_stop, crate::proofs::Running::run_all, crate::proofs::Running::value_worked))]
 pub fn evaluate<R: Ring, O: MonomialOrder>(
     algebra: &Closed<R, O>,
     pieces: &[Piece],

@@ -32,6 +32,7 @@ impl<'a> Model for Stack<'a> {
 
 impl<'a> Stack<'a> {
     // No values.
+    #[tactic(auto, unfolding(crate::specs::Machine::held))]
     pub(crate) fn new(frames: &'a mut [Frame]) -> Stack<'a>
         ensures { result ≡ record { room = length frames.old; values = [] } }
     {
@@ -39,6 +40,7 @@ impl<'a> Stack<'a> {
     }
 
     // Refuses where there is no room for one value more.
+    #[tactic(auto, using(crate::proofs::Stacking::length_held, crate::proofs::Stacking::held_none, crate::proofs::Stacking::held_last, crate::proofs::Stacking::held_push, crate::proofs::Stacking::room, crate::proofs::Stacking::some_under))]
     pub(crate) fn check_room(&self) -> Result<(), ScriptFault>
         ensures room { OnOk result (length self.now.values < self.now.room) }
         ensures full { OnErr result (self.now.room ≤ length self.now.values) }
@@ -52,6 +54,7 @@ impl<'a> Stack<'a> {
     }
 
     // One value more.
+    #[tactic(auto, using(crate::proofs::Stacking::length_held, crate::proofs::Stacking::held_none, crate::proofs::Stacking::held_last, crate::proofs::Stacking::held_push, crate::proofs::Stacking::room, crate::proofs::Stacking::some_under))]
     pub(crate) fn push(&mut self, value: Frame) -> Result<(), ScriptFault>
         ensures left { Left (pushed self.old.room self.old.values (Ok (frame_terms value))) self.new.values result }
         ensures room { self.new.room ≡ self.old.room }
@@ -63,6 +66,7 @@ impl<'a> Stack<'a> {
     }
 
     // The last value, taken away.
+    #[tactic(auto, using(crate::proofs::Stacking::length_held, crate::proofs::Stacking::held_none, crate::proofs::Stacking::held_last, crate::proofs::Stacking::held_push, crate::proofs::Stacking::room, crate::proofs::Stacking::some_under))]
     pub(crate) fn pop(&mut self) -> Result<Frame, ScriptFault>
         ensures value { IfOk result (λ f. self.old.values ≡ frame_terms f ∷ self.new.values) }
         ensures space { OnOk result (length self.new.values < self.new.room) }
@@ -78,6 +82,7 @@ impl<'a> Stack<'a> {
     }
 
     // The value of a stack that holds one.
+    #[tactic(auto, using(crate::proofs::Stacking::length_held, crate::proofs::Stacking::held_none, crate::proofs::Stacking::held_last, crate::proofs::Stacking::held_push, crate::proofs::Stacking::room, crate::proofs::Stacking::some_under))]
     pub(crate) fn only(mut self) -> Result<Frame, ScriptFault>
         ensures { value_of result ≡ only self.entry.values }
     {

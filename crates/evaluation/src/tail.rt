@@ -16,6 +16,7 @@ use words::term::Term;
 pub(crate) mod draft;
 
 // The terms of which the first has this code, and the pieces follow its coefficient.
+#[tactic(auto, using(crate::proofs::Tailing::take_on, crate::proofs::Tailing::take_stop, crate::proofs::Tailing::take_all, crate::proofs::Tailing::made_at))]
 fn terms_from<R: Ring>(
     heap: Global,
     ring: &R,
@@ -47,6 +48,7 @@ fn collect_terms<R: Ring>(heap: Global, ring: &R, pieces: &[Piece]) -> Result<Ve
 
 // The terms of a tail from its pieces, of each term its coefficient and then its generators: each coefficient read by the ring, each word
 // grown letter by letter.
+#[tactic(auto, using(crate::proofs::Tailing::tail_made, crate::proofs::Tailing::made_at))]
 pub fn tail_terms<R: Ring>(heap: Global, ring: &R, pieces: &[Piece]) -> Result<Vec<Term>, Failure>
     ensures answer { Made (tail_of (R.Ring.model ring.now) (map shown pieces.now)) result }
     ensures terms { (ts : List TermForm) → map shown pieces.now ≡ term_pieces ts → Made (made_terms (R.Ring.model ring.now) ts) result }

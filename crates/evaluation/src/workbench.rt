@@ -46,6 +46,7 @@ impl<'a, R: Ring, O: MonomialOrder> Workbench<'a, R, O> {
     }
 
     // The word of one generator, with coefficient one.
+    #[tactic(auto, using(crate::proofs::Valuing::generator_worked, crate::proofs::Valuing::coefficient_worked, crate::proofs::Valuing::term_is))]
     pub(crate) fn generator(&mut self, x: u64) -> Result<Frame, ScriptFault>
         ensures value { value_of result ≡ generator_value (place R.Ring.model O.MonomialOrder.model self.old) x }
         ensures same { Same self.old self.new }
@@ -58,6 +59,7 @@ impl<'a, R: Ring, O: MonomialOrder> Workbench<'a, R, O> {
     }
 
     // The empty word, with the coefficient that is written so.
+    #[tactic(auto, using(crate::proofs::Valuing::generator_worked, crate::proofs::Valuing::coefficient_worked, crate::proofs::Valuing::term_is))]
     pub(crate) fn coefficient(&mut self, text: &[u8]) -> Result<Frame, ScriptFault>
         ensures value { value_of result ≡ coefficient_value (place R.Ring.model O.MonomialOrder.model self.old) text.now }
         ensures same { Same self.old self.new }

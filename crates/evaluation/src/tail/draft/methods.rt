@@ -27,6 +27,7 @@ impl Draft {
     }
 
     // One piece more.
+    #[tactic(auto, using(crate::proofs::Tailing::begun, crate::proofs::Valuing::term_is))]
     pub(crate) fn take<R: Ring>(&mut self, ring: &R, piece: Piece) -> Result<(), Failure>
         ensures { Grown (taken (R.Ring.model ring.now) (drafted self.old) (shown piece.entry)) (drafted self.new) result }
     {
@@ -52,6 +53,7 @@ impl Draft {
     }
 
     // The terms, the last with them.
+    #[tactic(auto, using(crate::proofs::Tailing::begun, crate::proofs::Valuing::term_is))]
     pub(crate) fn finish(self) -> Result<Vec<Term>, Failure>
         ensures { Made (Ok (all_terms (drafted self))) result }
     {

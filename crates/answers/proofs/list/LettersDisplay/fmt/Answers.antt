@@ -16,9 +16,3 @@ loop-x-preserved g c = λ plain.
       has_written_append _ _ _ _ _ _ so_far.1 (search rules),
       append_assoc so_far.0 now _ ∙ ap (λ bs. so_far.0 ++ bs) (sym d) ∙ so_far.2,
     )
-
-pub returns-after-loop-x-clause-writes : goal.returns-after-loop-x-clause-writes
-returns-after-loop-x-clause-writes g c = λ plain _.
-    let so_far = c.loop-x.invariant plain in
-    let d = at_drop_all (λ xs. letters_bytes (letters xs)) c.args.self.now.0.now c.loop-x.x-index (omega arith) in
-    has_written_of_eq _ _ _ _ _ (sym (append-nil so_far.0) ∙ ap (λ bs. so_far.0 ++ bs) (sym d) ∙ so_far.2) so_far.1
