@@ -15,8 +15,8 @@ use Rattle.normal_forms.proofs.Letters.{entries_over}
 use Rattle.algebra.specs.declared.verdict.Verdict.{Verdict}
 use Rattle.algebra.specs.Verdicts.{IsSound}
 use Rattle.algebra.specs.Overlaps.{by_run}
-use Rattle.algebra.specs.Calls.{when_sound, scan_first, scan_second, normalise, sum, difference, product}
-use Rattle.algebra.proofs.Scanning.{AllLoadable, when_sound-ok, scan_first-ok, scan_second-ok, by_run-ok}
+use Rattle.algebra.specs.Calls.{in_first, in_second, when_sound, scan_first, scan_second, normalise, sum, difference, product}
+use Rattle.algebra.proofs.Scanning.{AllLoadable, when_sound-ok, scan-ok, by_run-ok}
 use Rattle.algebra.proofs.Standing.{first_stand, sum-stand, difference-stand, product-stand}
 
 module _ (m : Coding) (o : OrderModel) (mem : Memory) (n : ℕ) (table : List Relation) (v : Verdict) where
@@ -31,15 +31,15 @@ module _ (m : Coding) (o : OrderModel) (mem : Memory) (n : ℕ) (table : List Re
   one ts es r h =
       let q = by_run (calculate m o table mem es) in
       let w = when_sound-ok v (scan_first m n 1 ts q) r h in
-      let x = scan_first-ok m n 1 ts q r w.1 in
+      let x = scan-ok in_first m n 1 ts q r w.1 in
       record { is_sound = w.0; first = x.0; second = tt; ran = by_run-ok (calculate m o table mem es) r x.1 }
 
   two : (ts us : List Term) (es : List Entry) (r : Outcome) → when_sound v (scan_first m n 1 ts (scan_second m n 1 us (by_run (calculate m o table mem es)))) ≡ Ok r → Scanned ts us es r
   two ts us es r h =
       let q = by_run (calculate m o table mem es) in
       let w = when_sound-ok v (scan_first m n 1 ts (scan_second m n 1 us q)) r h in
-      let x = scan_first-ok m n 1 ts (scan_second m n 1 us q) r w.1 in
-      let y = scan_second-ok m n 1 us q r x.1 in
+      let x = scan-ok in_first m n 1 ts (scan_second m n 1 us q) r w.1 in
+      let y = scan-ok in_second m n 1 us q r x.1 in
       record { is_sound = w.0; first = x.0; second = y.0; ran = by_run-ok (calculate m o table mem es) r y.1 }
 
   -- its entries stand for f, and the free sums of its operands are in the letters 1 to n

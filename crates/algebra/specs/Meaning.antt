@@ -1,9 +1,11 @@
 -- What verdicts and the terms of calculations mean.
-use Rattle.std.specs.Prelude.{ℕ, ◌↔◌, List, take, Ok, Err, Result}
-use Rattle.theory.specs.FreeSum.{FreeSum, ◌≈◌}
+use Rattle.std.specs.Prelude.{ℕ, ◌↔◌, List, ◌++◌, take, Ok, Err, Result}
+use Rattle.theory.specs.FreeSum.{FreeSum, ◌≈◌, negate, times}
 use Rattle.theory.specs.Basis.{Basis, StandardForm}
 use Rattle.coefficients.specs.Coding.{Coding}
 use Rattle.words.specs.declared.term.Term.{Term}
+use Rattle.run.specs.declared.calls.Calculation.{Calculation}
+use Rattle.run.specs.declared.calls.Calculation.TheVariants.{Normalise, Sum, Difference, Product}
 use Rattle.run.specs.declared.relation.Relation.{Relation}
 use Rattle.normal_forms.specs.Terms.{sum_of}
 use Rattle.normal_forms.specs.Relations.{relations_of}
@@ -11,6 +13,13 @@ use Rattle.algebra.specs.declared.fault.AlgebraFault.{AlgebraFault}
 use Rattle.algebra.specs.declared.fault.DecideFault.{DecideFault}
 use Rattle.algebra.specs.declared.verdict.Verdict.{Verdict}
 use Rattle.algebra.specs.Verdicts.{IsSound, IsDegenerate, IsDecided}
+
+-- the free sum that a calculation is of
+abbrev pub free_sum : (m : Coding) → Calculation → FreeSum m.ring
+free_sum m (Normalise list) = sum_of m list.now
+free_sum m (Sum first second) = sum_of m first.now ++ sum_of m second.now
+free_sum m (Difference first second) = sum_of m first.now ++ negate (sum_of m second.now)
+free_sum m (Product first second) = times (sum_of m first.now) (sum_of m second.now)
 
 module _ (m : Coding) (n : ℕ) (table : List Relation) where
   -- once decided, an algebra is sound exactly where its standard words are a basis, and degenerate exactly where they are not

@@ -21,10 +21,18 @@ use Rattle.algebra.specs.declared.fault.AlgebraFault.TheVariants.{Call, Run}
 abbrev pub overlap_place : ℕ → ℕ → Place
 overlap_place a e = record { step = 0; a = a; b = 0; e = e }
 
+-- what the tail term of (k, j) at place e gives, times x_i
+abbrev pub first_entry : ℕ → ℕ → Term → Entry
+first_entry i e t = record { word = letters t.row ++ (i ∷ []); code = Ok t.code; place = overlap_place 1 e }
+
 -- the tail terms of (k, j) times x_i, counted from e
 abbrev pub first_tail : ℕ → ℕ → List Term → List Entry
 first_tail i e [] = []
 first_tail i e (t ∷ ts) = record { word = letters t.row ++ (i ∷ []); code = Ok t.code; place = overlap_place 1 e } ∷ first_tail i (e + 1) ts
+
+-- what that of (j, i) gives, the negative of x_k times it
+abbrev pub second_entry : Coding → ℕ → ℕ → Term → Entry
+second_entry m k e t = record { word = k ∷ letters t.row; code = m.negative t.code; place = overlap_place 2 e }
 
 -- the negatives of x_k times the tail terms of (j, i)
 abbrev pub second_tail : Coding → ℕ → ℕ → List Term → List Entry
@@ -41,6 +49,10 @@ second_half m r i j k = record { word = k ∷ i ∷ j ∷ []; code = m.negative 
 
 abbrev pub overlap_entries : Coding → List Relation → ℕ → ℕ → ℕ → List Entry
 overlap_entries m table i j k = first_half (relation_of table k j) i j k ++ second_half m (relation_of table j i) i j k
+
+-- all checks passed
+abbrev pub passed : Result (Unit {0}) AlgebraFault
+passed = Ok tt
 
 -- r where the test passes, else the fault
 abbrev pub check : {A : Type 0} → Bool → CallCause → ℕ → ℕ → Result A AlgebraFault → Result A AlgebraFault

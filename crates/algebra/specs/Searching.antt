@@ -1,25 +1,17 @@
--- The triples with one or two of their letters fixed, and whether a search among triples goes on.
-use Rattle.std.specs.Prelude.{ℕ, Bool, true, false, cond, ◌&&◌, List, [], ◌∷◌, Ok, Err, Result, nat_lt}
-use Rattle.std.specs.List.{range_with_len}
+-- What is left of the triples in the course of a search, and whether an overlap vanishes.
+use Rattle.std.specs.Prelude.{Bool, true, false, List, [], ◌∷◌, Ok, Err, Result}
+use Rattle.words.specs.declared.term.Term.{Term}
+use Rattle.run.specs.declared.fault.RunFault.{RunFault}
+use Rattle.run.specs.Step.{Outcome}
+use Rattle.algebra.specs.declared.fault.AlgebraFault.TheVariants.{Run}
 use Rattle.algebra.specs.declared.fault.DecideFault.{DecideFault}
-use Rattle.algebra.specs.declared.verdict.Verdict.{Verdict}
-use Rattle.algebra.specs.declared.verdict.Verdict.TheVariants.{Undecided, Sound, Degenerate}
-use Rattle.algebra.specs.Decide.{Triple, each}
+use Rattle.algebra.specs.Decide.{Triple}
 
--- the triple, if it rises
-abbrev pub triple_at : ℕ → ℕ → ℕ → List Triple
-triple_at i j k = cond (nat_lt i j && nat_lt j k) (record { i = i; j = j; k = k } ∷ []) []
+abbrev pub no_terms : List Term → Bool
+no_terms [] = true
+no_terms (x ∷ xs) = false
 
--- the triples that begin with i and j, and those that begin with i
-abbrev pub triples_of_two : ℕ → ℕ → ℕ → List Triple
-triples_of_two n i j = each (triple_at i j) (range_with_len 1 n)
-
-abbrev pub triples_of_one : ℕ → ℕ → List Triple
-triples_of_one n i = each (triples_of_two n i) (range_with_len 1 n)
-
--- no overlap so far decided, and none was refused
-abbrev pub goes_on : Result Verdict DecideFault → Bool
-goes_on (Ok Sound) = true
-goes_on (Ok Undecided) = false
-goes_on (Ok (Degenerate i j k)) = false
-goes_on (Err f) = false
+-- whether the run of a triple's overlap was answered without terms
+abbrev pub vanishing : Triple → Result Outcome RunFault → Result Bool DecideFault
+vanishing t (Ok r) = Ok (no_terms r.terms)
+vanishing t (Err f) = Err (record { overlap = Run f; i = t.i; j = t.j; k = t.k })

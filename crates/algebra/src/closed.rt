@@ -1,48 +1,20 @@
 // Closed algebras.
-ghost use Rattle.std.specs.Prelude.{◌≡◌};
-ghost use Rattle.algebra.specs.declared.verdict.Verdict.TheVariants.{Undecided};
+ghost use Rattle.algebra.specs.Meaning.{TellsTruth};
 
 use crate::verdict::Verdict;
-use relations::count::Count;
-use run::relation::Table;
+use coefficients::ring::Ring;
+use orders::order::MonomialOrder;
+use relations::presentation::Presentation;
 
-// A ring, an order, how many generators there are, the relation of each pair, and what is known of the algebra.
+// A presentation, and what is known of it: once decided, the verdict says whether the standard words are a basis.
 #[derive(Drop)]
-pub struct Closed<R, O> {
-    ring: R,
-    order: O,
-    count: Count,
-    table: Table,
+pub struct Closed<R: Ring, O: MonomialOrder> {
+    presentation: Presentation<R, O>,
     verdict: Verdict,
-}
-
-impl<R, O> Closed<R, O> {
-    // Nothing is known of it yet.
-    pub(crate) fn undecided(ring: R, order: O, count: Count, table: Table) -> Closed<R, O>
-        ensures { (result.ring ≡ ring) × ((result.order ≡ order) × ((result.count ≡ count) × ((result.table ≡ table) × (result.verdict ≡ Undecided)))) }
-    {
-        Closed {
-            ring,
-            order,
-            count,
-            table,
-            verdict: Verdict::Undecided,
-        }
-    }
-
-    pub fn ring(&self) -> &R
-        ensures { result.now ≡ self.now.ring }
-    {
-        &self.ring
-    }
-
-    pub fn verdict(&self) -> Verdict
-        ensures { result ≡ self.now.verdict }
-    {
-        self.verdict
-    }
+    ghost truthful: { ∥ TellsTruth (R.model presentation.rules.ring) presentation.count.n presentation.rules.table verdict ∥₁ },
 }
 
 mod calls;
 mod decide;
+mod methods;
 mod overlap;

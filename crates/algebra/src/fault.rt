@@ -1,7 +1,7 @@
 // Why a call on a closed algebra is refused, and where.
 ghost use Rattle.std.specs.Prelude.{◌≡◌};
-ghost use Rattle.algebra.specs.Faults.{number_and_layer, algebra_refusal};
-ghost use Rattle.algebra.specs.declared.fault.AlgebraFault.TheVariants.{Run};
+ghost use Rattle.algebra.specs.Faults.{cause_refusal, algebra_refusal};
+ghost use Rattle.algebra.specs.declared.fault.AlgebraFault.TheVariants.{Call, Run};
 
 use coefficients::fault::RingFault;
 use refusals::Refusal;
@@ -33,14 +33,6 @@ pub enum AlgebraFault {
     Run(RunFault),
 }
 
-impl From<RunFault> for AlgebraFault {
-    ghost from_gives = { λ e r. r ≡ Run e };
-
-    fn from(e: RunFault) -> AlgebraFault {
-        AlgebraFault::Run(e)
-    }
-}
-
 // The fault of a decision: that of the overlap, whole, and its triple.
 #[derive(Clone, Copy, PartialEq, Eq, Debug)]
 pub struct DecideFault {
@@ -51,39 +43,65 @@ pub struct DecideFault {
 }
 
 impl CallCause {
-    fn number_and_layer(&self) -> (u8, u8)
-        ensures { result ≡ number_and_layer self.now }
+    // At a place of the first list or of the second.
+    pub(crate) fn at(self, a: u64, b: u64) -> AlgebraFault
+        ensures { result ≡ Call (record { cause = self; a = a; b = b }) }
     {
-        match self {
-            CallCause::Undecided => (21, 3),
-            CallCause::Degenerate => (22, 3),
-            CallCause::Generator => (2, 3),
-            CallCause::NotRising => (3, 3),
-            CallCause::Coefficient(f) => {
-                let r = f.refusal();
-                (r.number, r.layer)
-            }
+        AlgebraFault::Call(CallFault { cause: self, a, b })
+    }
+}
+
+// At no place.
+impl From<CallCause> for AlgebraFault {
+    ghost from_gives = { λ e r. r ≡ Call (record { cause = e; a = 0; b = 0 }) };
+
+    fn from(cause: CallCause) -> AlgebraFault {
+        cause.at(0, 0)
+    }
+}
+
+impl From<RunFault> for AlgebraFault {
+    ghost from_gives = { λ e r. r ≡ Run e };
+
+    fn from(fault: RunFault) -> AlgebraFault {
+        AlgebraFault::Run(fault)
+    }
+}
+
+impl From<CallCause> for Refusal {
+    ghost from_gives = { λ e r. r ≡ cause_refusal e };
+
+    fn from(cause: CallCause) -> Refusal {
+        match cause {
+            CallCause::Undecided => Refusal::plain(21, 3),
+            CallCause::Degenerate => Refusal::plain(22, 3),
+            CallCause::Generator => Refusal::plain(2, 3),
+            CallCause::NotRising => Refusal::plain(3, 3),
+            CallCause::Coefficient(fault) => Refusal::from(fault),
         }
     }
 }
 
-impl AlgebraFault {
-    pub fn refusal(&self) -> Refusal
-        ensures { result ≡ algebra_refusal self.now }
-    {
-        match self {
-            AlgebraFault::Call(f) => {
-                let (number, layer) = f.cause.number_and_layer();
-                Refusal {
-                    number,
-                    layer,
-                    step: 0,
-                    a: f.a,
-                    b: f.b,
-                    e: 0,
-                }
-            }
-            AlgebraFault::Run(f) => f.refusal(),
+impl From<AlgebraFault> for Refusal {
+    ghost from_gives = { λ e r. r ≡ algebra_refusal e };
+
+    fn from(fault: AlgebraFault) -> Refusal {
+        match fault {
+            AlgebraFault::Call(CallFault { cause, a, b }) => Refusal {
+                a,
+                b,
+                ..Refusal::from(cause)
+            },
+            AlgebraFault::Run(fault) => Refusal::from(fault),
         }
+    }
+}
+
+// That of the overlap; the triple is told apart.
+impl From<DecideFault> for Refusal {
+    ghost from_gives = { λ e r. r ≡ algebra_refusal e.overlap };
+
+    fn from(fault: DecideFault) -> Refusal {
+        Refusal::from(fault.overlap)
     }
 }

@@ -5,7 +5,6 @@ pub mod close;
 pub mod closed;
 pub mod fault;
 mod overlap;
-mod rows;
 mod scan;
 mod search;
 mod triple;

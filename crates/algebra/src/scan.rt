@@ -1,48 +1,64 @@
 // The scan of lists of terms before a calculation.
-ghost use Rattle.std.specs.Prelude.{◌≡◌, Ok};
-ghost use Rattle.coefficients.specs.declared.fault.RingFault.TheVariants.{NotInUse};
-ghost use Rattle.relations.specs.Declare.{is_word};
-ghost use Rattle.algebra.specs.declared.fault.CallCause.TheVariants.{Generator, Coefficient};
-ghost use Rattle.algebra.specs.Overlaps.{check};
-ghost use Rattle.algebra.specs.Calls.{scan_first, scan_second};
+ghost use Rattle.std.specs.Prelude.{◌≡◌};
+ghost use Rattle.algebra.specs.declared.fault.AlgebraFault.{AlgebraFault as Fault};
+ghost use Rattle.algebra.specs.declared.fault.CallCause.{CallCause as Cause};
+ghost use Rattle.algebra.specs.Calls.{check_term, scan};
+ghost use Rattle.algebra.specs.Overlaps.{passed};
+ghost use Rattle.algebra.specs.Scans.{in_list, placed};
 
-use crate::fault::{AlgebraFault, CallCause, CallFault};
+use crate::fault::{AlgebraFault, CallCause};
 use coefficients::fault::RingFault;
 use coefficients::ring::Ring;
-use relations::tail::is_word_over;
+use orders::order::MonomialOrder;
+use relations::presentation::Presentation;
+use relations::row::is_word_over;
 use words::term::Term;
 
-// The checks of the term at place a of the first list or b of the second.
-fn check_term<R: Ring>(ring: &R, n: u64, t: &Term, a: u64, b: u64) -> Result<(), AlgebraFault>
-    ensures { result ≡ check (is_word n t.now.row) Generator a b (check ((R.Ring.model ring.now).used t.now.code) (Coefficient NotInUse) a b (Ok tt)) }
+// Which of a calculation's lists a term is in.
+#[derive(Clone, Copy)]
+pub(crate) enum Side {
+    First,
+    Second,
+}
+
+impl Side {
+    // The fault of the term at a place of this list.
+    fn fault(self, cause: CallCause, place: u64) -> AlgebraFault
+        ensures { result ≡ in_list self place cause }
+    {
+        match self {
+            Side::First => cause.at(place, 0),
+            Side::Second => cause.at(0, place),
+        }
+    }
+}
+
+// The checks of one term.
+fn check_term<R: Ring>(ring: &R, n: u64, t: &Term) -> Result<(), CallCause>
+    ensures { (f : Cause → Fault) → placed f result ≡ check_term f (R.model ring.now) n t.now passed }
 {
     if !is_word_over(n, &t.row) {
-        let cause = CallCause::Generator;
-        return Err(AlgebraFault::Call(CallFault { cause, a, b }));
+        return Err(CallCause::Generator);
     }
     if !ring.in_use(t.code) {
-        let cause = CallCause::Coefficient(RingFault::NotInUse);
-        return Err(AlgebraFault::Call(CallFault { cause, a, b }));
+        return Err(CallCause::Coefficient(RingFault::NotInUse));
     }
     Ok(())
 }
 
-// The checks of each term of a first list.
-pub(crate) fn check_first<R: Ring>(ring: &R, n: u64, list: &[Term]) -> Result<(), AlgebraFault>
-    ensures { result ≡ scan_first (R.Ring.model ring.now) n 1 list.now (Ok tt) }
+// The checks of each term of a list, counted from 1.
+pub(crate) fn check_list<R: Ring, O: MonomialOrder>(
+    presentation: &Presentation<R, O>,
+    side: Side,
+    list: &[Term],
+) -> Result<(), AlgebraFault>
+    ensures { result ≡ scan (in_list side) (R.model presentation.now.rules.ring) presentation.now.count.n 1 list.now passed }
 {
-    for p in 0..list.len() {
-        check_term(ring, n, &list[p], p as u64 + 1, 0)?;
-    }
-    Ok(())
-}
-
-// The checks of each term of a second list.
-pub(crate) fn check_second<R: Ring>(ring: &R, n: u64, list: &[Term]) -> Result<(), AlgebraFault>
-    ensures { result ≡ scan_second (R.Ring.model ring.now) n 1 list.now (Ok tt) }
-{
-    for p in 0..list.len() {
-        check_term(ring, n, &list[p], 0, p as u64 + 1)?;
+    let n = presentation.count().value();
+    let ring = &presentation.rules().ring;
+    for (p, t) in list.iter().enumerate() {
+        let place = p as u64 + 1;
+        check_term(ring, n, t).map_err(|cause| side.fault(cause, place))?;
     }
     Ok(())
 }

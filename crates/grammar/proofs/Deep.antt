@@ -1,5 +1,5 @@
 -- An expression is refused as too deep exactly where it begins like one of any depth, up to a bracket inside as many others as it may have.
-use Rattle.std.proofs.Common.{◌≡◌, ℕ, zero, suc, ◌+◌, Bool, true, false, cond, eqb, ◌⊎◌, List, [], ◌∷◌, ◌++◌, length, Ok, Err, Result, sym, refl, ap, ◌∙◌, subst, inl, inr, ⊎_elim, append_assoc, arith}
+use Rattle.std.proofs.Common.{◌≡◌, ℕ, zero, suc, ◌+◌, Bool, true, false, cond, ◌⊎◌, List, [], ◌∷◌, ◌++◌, length, Ok, Err, Result, sym, refl, ap, ◌∙◌, subst, inl, inr, ⊎_elim, append_assoc, arith}
 use Rattle.std.proofs.lemmas.Bool.Decides.{nat_tests}
 use Rattle.grammar.specs.declared.fault.ReadFault.{ReadFault}
 use Rattle.grammar.specs.declared.fault.ReadFault.TheVariants.{Misfit, DeepBracket}
@@ -109,14 +109,12 @@ next_deep (Err Misfit) f g s t h = absurd (cc)
 next_deep (Err DeepBracket) f g s t h = absurd (s refl)
 
 spaced-shallow : (o : Operator) (bs : List ℕ) → Shallow (spaced o bs)
-spaced-shallow o [] = misfit-shallow {X = Operator × List ℕ}
-spaced-shallow o (c ∷ bs) = cond-shallow (eqb c 32) (Ok (o, bs)) (Err Misfit) (ok-shallow (o, bs)) (misfit-shallow {X = Operator × List ℕ})
+spaced-shallow o [] h = absurd (cc)
+spaced-shallow o (c ∷ bs) h = grind (arith, nat_tests)
 
 operator_shallow : (bs : List ℕ) → Shallow (read_operator bs)
-operator_shallow [] = misfit-shallow {X = Operator × List ℕ}
-operator_shallow (b ∷ bs) =
-    cond-shallow (eqb b 43) (spaced Sum bs) _ (spaced-shallow Sum bs)
-    (cond-shallow (eqb b 42) (spaced Product bs) _ (spaced-shallow Product bs) (cond-shallow (eqb b 45) (spaced Difference bs) (Err Misfit) (spaced-shallow Difference bs) (misfit-shallow {X = Operator × List ℕ})))
+operator_shallow [] h = absurd (cc)
+operator_shallow (b ∷ bs) h = let s = spaced-shallow Sum bs in let p = spaced-shallow Product bs in let d = spaced-shallow Difference bs in grind (arith, nat_tests)
 
 leaf-shallow : (bs : List ℕ) → Shallow (read_leaf bs)
 leaf-shallow bs = then-shallow (read_atom bs) (λ p. Ok (leaf p.0, p.1)) (atom_shallow bs) (λ p. ok-shallow (leaf p.0, p.1))

@@ -52,7 +52,7 @@ unless-shallow (Some x) a rest = misfit-shallow {X = List ℕ × List ℕ}
 unless-shallow None a rest = ok-shallow (a, rest)
 
 pub atom_shallow : (bs : List ℕ) → Shallow (read_atom bs)
-atom_shallow bs = cond-shallow (eqb (atom_length bs) 0) (Err Misfit) (Ok (take (atom_length bs) bs, drop (atom_length bs) bs)) (misfit-shallow {X = List ℕ × List ℕ}) (ok-shallow _)
+atom_shallow bs h = grind (arith, nat_tests)
 
 atom_whole : (a rest : List ℕ) → plain a ≡ true → Ends rest → atom_length (a ++ rest) ≡ length a
 atom_whole [] [] p e = refl

@@ -3,7 +3,6 @@ use Rattle.std.proofs.Common.{◌≡◌, ℕ, zero, suc, ◌+◌, ◌-◌, ◌<�
 use Rattle.std.specs.List.{flat_map}
 use Rattle.std.proofs.lemmas.Grind.{flat_map-append}
 use Rattle.grammar.specs.declared.fault.ReadFault.{ReadFault}
-use Rattle.grammar.specs.declared.fault.ReadFault.TheVariants.{Misfit}
 use Rattle.grammar.specs.declared.bytes.Next.{Next}
 use Rattle.grammar.specs.declared.bytes.Next.TheVariants.{Part, End}
 use Rattle.grammar.specs.declared.piece.Piece.{Piece}

@@ -1,5 +1,5 @@
 -- Rings, orders, terms and lists of parts: exactly what is written is read.
-use Rattle.std.proofs.Common.{◌≡◌, ℕ, zero, suc, ◌<◌, ◌≤◌, cond, eqb, ◌⊎◌, List, [], ◌∷◌, ◌++◌, map, length, Ok, Err, codes, decimal, Result, sym, refl, ap, ◌∙◌, subst, inl, inr, ⊎_elim, append_assoc, append-nil, arith, length-append}
+use Rattle.std.proofs.Common.{◌≡◌, ℕ, zero, suc, ◌<◌, ◌≤◌, ◌⊎◌, List, [], ◌∷◌, ◌++◌, map, length, Ok, Err, codes, decimal, Result, sym, refl, ap, ◌∙◌, subst, inl, inr, ⊎_elim, append_assoc, append-nil, arith, length-append}
 use lib.ListN.{length-map}
 use Rattle.std.proofs.lemmas.Bool.Decides.{nat_tests}
 use Rattle.grammar.specs.declared.fault.ReadFault.{ReadFault}
@@ -13,7 +13,7 @@ use Rattle.grammar.specs.FormReader.{read_mod, read_ring, read_weights, read_ord
 use Rattle.grammar.specs.Forms.{OrderChoice, lex, degree, TermForm}
 use Rattle.grammar.specs.Grammar.{spaced_parts, write_ring, write_order, write_term, write_generator, Number, All, FineRing, FineOrder, FineTerm}
 use Rattle.grammar.proofs.Chains.{linked, expect-written}
-use Rattle.grammar.proofs.Leaves.{Exact, Ends, Shallow, misfit-shallow, ok-shallow, then-shallow, cond-shallow, number_exact, generator_exact, coefficient_exact}
+use Rattle.grammar.proofs.Leaves.{Exact, Ends, Shallow, misfit-shallow, ok-shallow, then-shallow, number_exact, generator_exact, coefficient_exact}
 
 -- the two ways of a list: its end, or one part more
 pub next_ways : {Y : Type 0} (r : Reads Next) (f g : List ℕ → Reads Y) (y : Y × List ℕ) → by_next r f g ≡ Ok y → ((q : List ℕ) × (r ≡ Ok (End, q)) × (f q ≡ Ok y)) ⊎ ((q : List ℕ) × (r ≡ Ok (Part, q)) × (g q ≡ Ok y))
@@ -37,13 +37,13 @@ by_shallow {Y} (Err Misfit) f g h k l = misfit-shallow {X = Y × List ℕ}
 by_shallow (Err DeepBracket) f g h k l = λ _. h refl
 
 pub next-shallow : (bs : List ℕ) → Shallow (read_next bs)
-next-shallow [] = misfit-shallow {X = Next × List ℕ}
-next-shallow (b ∷ bs) = cond-shallow (eqb b 41) (Ok (End, bs)) (cond (eqb b 32) (Ok (Part, bs)) (Err Misfit)) (ok-shallow (End, bs)) (cond-shallow (eqb b 32) (Ok (Part, bs)) (Err Misfit) (ok-shallow (Part, bs)) (misfit-shallow {X = Next × List ℕ}))
+next-shallow [] h = absurd (cc)
+next-shallow (b ∷ bs) h = grind (arith, nat_tests)
 
 pub expect-shallow : (w bs : List ℕ) → Shallow (expect w bs)
-expect-shallow [] bs = ok-shallow bs
-expect-shallow (c ∷ w) [] = misfit-shallow {X = List ℕ}
-expect-shallow (c ∷ w) (b ∷ bs) = cond-shallow (eqb b c) (expect w bs) (Err Misfit) (expect-shallow w bs) (misfit-shallow {X = List ℕ})
+expect-shallow [] bs h = absurd (cc)
+expect-shallow (c ∷ w) [] h = absurd (cc)
+expect-shallow (c ∷ w) (b ∷ bs) h = let i = expect-shallow w bs in grind (arith, nat_tests)
 
 pub or_shallow : {X Y : Type 0} (r : Result X ReadFault) (f : X → Result Y ReadFault) (g : Result Y ReadFault) → ((x : X) → Shallow (f x)) → Shallow g → Shallow (or_else r f g)
 or_shallow (Ok x) f g h k = h x

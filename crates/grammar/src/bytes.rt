@@ -101,7 +101,7 @@ pub(crate) fn coefficient(s: &[u8]) -> Result<(&[u8], &[u8]), ReadFault>
     formed(s, coefficient_in)
 }
 
-// What comes after a part of a list.
+// What comes after a part of a list. As of every reader, the bytes that are left stand beside the value.
 #[derive(Clone, Copy)]
 pub enum Next {
     Part,

@@ -21,6 +21,7 @@ fn operator(s: &[u8]) -> Result<(Operator, &[u8]), ReadFault>
     }
 }
 
+// The piece that an atom is.
 fn leaf_of_atom<'a>(a: &'a [u8]) -> Piece<'a>
     ensures { shown result ≡ leaf_of a.now }
 {
@@ -30,12 +31,14 @@ fn leaf_of_atom<'a>(a: &'a [u8]) -> Piece<'a>
     }
 }
 
+// Whether the operands may end here: a difference has two, a sum or a product one at least.
 fn can_end(op: Operator, joined: usize) -> bool
     ensures { result ≡ may_end op joined }
 {
     op != Operator::Difference || joined == 1
 }
 
+// Whether one operand more may come.
 fn can_go_on(op: Operator, joined: usize) -> bool
     ensures { result ≡ may_go_on op joined }
 {
@@ -50,6 +53,7 @@ fn opened(s: &[u8]) -> Option<&[u8]>
 }
 
 impl<'p, 'a> Reading<'p, 'a> {
+    // A generator or a coefficient.
     fn leaf(&mut self) -> Result<(), ReadFault>
         ensures { Left postfix (read_leaf self.old.rest.now) self.old self.new result }
     {

@@ -36,7 +36,7 @@ pub(crate) fn ring(s: &[u8]) -> Result<(RingForm, &[u8]), ReadFault>
     modulus(s)
 }
 
-// The weights up to the closing bracket, each behind a space.
+// The weights up to the closing bracket, each behind a space. They are kept as numbers and not as pieces, and are at most eight.
 fn weights(s: &[u8]) -> Result<(Weights, &[u8]), ReadFault>
     ensures { seen_as written_weights result ≡ read_weights s.now }
 {

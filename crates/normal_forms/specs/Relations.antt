@@ -2,6 +2,9 @@
 use Rattle.std.specs.Prelude.{◌≡◌, ℕ, ◌*◌, ◌≤◌, true, List, [], ◌∷◌, length}
 use Rattle.std.specs.declared.cmp.Ordering.TheVariants.{Less}
 use mathlib.Core.WellFounded.{WellFounded}
+use Rattle.std.specs.Coded.{×_prop, Unit-prop}
+use Rattle.std.proofs.Props.{props}
+use Rattle.theory.specs.Words.{Letter, Over}
 use Rattle.theory.specs.Relations.{Relations, Pair}
 use Rattle.theory.specs.Rewriting.{Below}
 use Rattle.coefficients.specs.Coding.{Coding}
@@ -38,3 +41,14 @@ pub record Valid (m : Coding) (o : OrderModel) (n : ℕ) (table : List Relation)
   pub few : n ≤ letter_count
   pub size : length table ≡ letter_count * letter_count
   pub pairs : (j i : ℕ) → Pair n j i → ValidRelation m o n j i (relation_of table j i)
+
+-- in one way at most is a word in the letters 1 to n, and a table valid
+pub Over-prop : (n : ℕ) (w : List ℕ) → IsProp (Over n w)
+Over-prop n [] = Unit-prop
+Over-prop n (x ∷ w) = ×_prop (letter n x) (Over-prop n w)
+  where
+    letter : (n k : ℕ) → IsProp (Letter n k)
+    letter n k = hlevel props
+
+pub Valid-prop : (m : Coding) (o : OrderModel) (n : ℕ) (table : List Relation) → IsProp (Valid m o n table)
+Valid-prop m o n table = hlevel (Over-prop, props)

@@ -1,5 +1,6 @@
 -- The table of an algebra that was just opened is valid, and an accepted declaration keeps it valid.
 use Rattle.std.proofs.Common.{◌≡◌, ℕ, ◌+◌, ◌<◌, ◌≤◌, Bool, true, false, cond, not, ◌&&◌, eqb, ltb, leb, List, [], ◌∷◌, length, get_or, set, Some, None, Ok, Option, Result, Ordering, Less, Equal, Greater, sym, refl, ap, ◌∙◌, subst, inl, inr, arith, length-set, get_or-set_other, get_or-set_same}
+use Rattle.std.specs.Ordering.{is_lt}
 use native.Mathlib.Decide.{ℕ_discrete}
 use lib.ListN.{length-replicate, get_or-replicate}
 use Rattle.std.proofs.lemmas.Bool.{and_parts, ltb-true, leb-true}
@@ -19,7 +20,7 @@ use Rattle.normal_forms.specs.Relations.{TailTerm, ValidRelation, Valid}
 use Rattle.relations.specs.declared.fault.DeclareCause.{DeclareCause}
 use Rattle.relations.specs.declared.fault.DeclareCause.TheVariants.{Generator, NotRising, AlreadyDeclared, Coefficient, FactorZero, TailSize, TailNotKept, TailNotBefore}
 use Rattle.relations.specs.declared.fault.DeclareFault.{DeclareFault}
-use Rattle.relations.specs.Declare.{passed, check, is_generator, letters_to, is_word, is_less, below_last, image_before, check_tail, declare_answer, AllFull}
+use Rattle.relations.specs.Declare.{passed, check, is_generator, letters_to, is_word, below_last, image_before, check_tail, check_relation, declare_answer, AllFull}
 use Rattle.relations.specs.Presentations.{Says, Plain, Declares}
 
 -- a check that was passed
@@ -27,7 +28,7 @@ check-ok : {A : Type 0} (b : Bool) (f : DeclareCause) (p : ℕ) (r : Result A De
 check-ok true f p r x h = (refl, h)
 check-ok false f p r x h = let z : ◌≡◌ {A = ℕ} 0 1 = cc in absurd (omega arith)
 
-less_is : (r : Ordering) → is_less r ≡ true → r ≡ Less
+less_is : (r : Ordering) → is_lt r ≡ true → r ≡ Less
 less_is Less h = refl
 less_is Equal h = let z : ◌≡◌ {A = ℕ} 0 1 = cc in absurd (omega arith)
 less_is Greater h = let z : ◌≡◌ {A = ℕ} 0 1 = cc in absurd (omega arith)
@@ -70,20 +71,34 @@ module _ (m : Coding) (o : OrderModel) (n j i : ℕ) where
       all s rest u (inl e) = subst (TailTerm m o n j i) (sym e) s
       all s rest u (inr a) = rest u a
 
+  -- what a relation that passed its checks has
+  record Checked (c : ℕ) (tail : List Term) : Type 0 where
+    pub factor : m.used c ≡ true
+    pub tail_checked : check_tail m o n j i None 1 tail passed ≡ passed
+
+  checked : (c : ℕ) (tail : List Term) → check_relation m o n j i c tail ≡ passed → Checked c tail
+  checked c tail h =
+      let e₃ = check_tail m o n j i None 1 tail passed in
+      let e₂ = check (leb (length tail) 8) TailSize 0 e₃ in
+      let e₁ = check (not (eqb c 0)) FactorZero 0 e₂ in
+      let q₁ = check-ok (m.used c) (Coefficient NotInUse) 0 e₁ tt h in
+      let q₂ = check-ok (not (eqb c 0)) FactorZero 0 e₂ tt q₁.1 in
+      record { factor = q₁.0; tail_checked = (check-ok (leb (length tail) 8) TailSize 0 e₃ tt q₂.1).1 }
+
+  valid_relation : (c : ℕ) (tail : List Term) (r : Relation) → Checked c tail → AllFull tail → Says r c tail → ValidRelation m o n j i r
+  valid_relation c tail r s f a =
+      record { factor = ap m.used a.factor ∙ s.factor; tail = λ t b. tail-ok None 1 tail s.tail_checked f t (subst (Among t) a.tail b) }
+
   -- what an accepted declaration has seen to
   pub record Seen (d : List Bool) (c : ℕ) (tail : List Term) : Type 0 where
     pub pair : Pair n j i
     pub fresh : not (get_or d (pair_place j i) false) ≡ true
-    pub factor : m.used c ≡ true
-    pub tail_checked : check_tail m o n j i None 1 tail passed ≡ passed
+    pub rest : check_relation m o n j i c tail ≡ passed
 
   pub seen : (d : List Bool) (c : ℕ) (tail : List Term) → declare_answer m o n d j i c tail ≡ passed → Seen d c tail
   unfolding declare_answer
   seen d c tail h =
-      let e₇ = check_tail m o n j i None 1 tail passed in
-      let e₆ = check (leb (length tail) 8) TailSize 0 e₇ in
-      let e₅ = check (not (eqb c 0)) FactorZero 0 e₆ in
-      let e₄ = check (m.used c) (Coefficient NotInUse) 0 e₅ in
+      let e₄ = check_relation m o n j i c tail in
       let e₃ = check (not (get_or d (pair_place j i) false)) AlreadyDeclared 0 e₄ in
       let e₂ = check (ltb i j) NotRising 0 e₃ in
       let e₁ = check (is_generator n i) Generator 0 e₂ in
@@ -91,9 +106,6 @@ module _ (m : Coding) (o : OrderModel) (n j i : ℕ) where
       let q₂ = check-ok (is_generator n i) Generator 0 e₂ tt q₁.1 in
       let q₃ = check-ok (ltb i j) NotRising 0 e₃ tt q₂.1 in
       let q₄ = check-ok (not (get_or d (pair_place j i) false)) AlreadyDeclared 0 e₄ tt q₃.1 in
-      let q₅ = check-ok (m.used c) (Coefficient NotInUse) 0 e₅ tt q₄.1 in
-      let q₆ = check-ok (not (eqb c 0)) FactorZero 0 e₆ tt q₅.1 in
-      let q₇ = check-ok (leb (length tail) 8) TailSize 0 e₇ tt q₆.1 in
       record {
         pair = record {
           low = leb-true 1 i (and_parts (leb 1 i) (leb i n) q₂.0).0;
@@ -101,14 +113,8 @@ module _ (m : Coding) (o : OrderModel) (n j i : ℕ) where
           high = leb-true j n (and_parts (leb 1 j) (leb j n) q₁.0).1;
         };
         fresh = q₄.0;
-        factor = q₅.0;
-        tail_checked = q₇.1;
+        rest = q₄.1;
       }
-
-  -- the relation of an accepted declaration
-  declared-valid : (d : List Bool) (c : ℕ) (tail : List Term) (r : Relation) → Seen d c tail → AllFull tail → Says r c tail → ValidRelation m o n j i r
-  declared-valid d c tail r s f a =
-      record { factor = ap m.used a.factor ∙ s.factor; tail = λ t b. tail-ok None 1 tail s.tail_checked f t (subst (Among t) a.tail b) }
 
 pub opened-valid : (m : Coding) (o : OrderModel) (n : ℕ) (table : List Relation) → n ≤ letter_count → Plain m.one table → Valid m o n table
 unfolding relation_of
@@ -125,10 +131,10 @@ opened-valid m o n table h p =
     plain : (j i : ℕ) → ValidRelation m o n j i p.relation
     plain j i = record { factor = ap m.used p.says.factor ∙ m.one_code.in_use; tail = λ t a. absurd (subst (Among t) p.says.tail a) }
 
-module _ (m : Coding) (o : OrderModel) (n j i c : ℕ) (tail : List Term) where
-  set-valid : (d : List Bool) (table : List Relation) (r : Relation) → Seen m o n j i d c tail → ValidRelation m o n j i r → Valid m o n table → Valid m o n (set table (pair_place j i) r)
+module _ (m : Coding) (o : OrderModel) (n j i : ℕ) (pair : Pair n j i) (table : List Relation) where
+  set-valid : (r : Relation) → ValidRelation m o n j i r → Valid m o n table → Valid m o n (set table (pair_place j i) r)
   unfolding relation_of
-  set-valid d table r s w v = record {
+  set-valid r w v = record {
     few = v.few;
     size = length-set table (pair_place j i) r ∙ v.size;
     pairs = λ j' i' f. at j' i' f (ℕ_discrete (pair_place j' i') (pair_place j i));
@@ -145,34 +151,28 @@ module _ (m : Coding) (o : OrderModel) (n j i c : ℕ) (tail : List Term) where
 
           inside : pair_place j i < length table
           inside =
-              let b₀ = s.pair.low in
-              let b₁ = s.pair.falls in
-              let b₂ = s.pair.high in
               let k = few in
               let z = v.size in
               omega arith
 
           same-j : j' ≡ j
           same-j =
-              let a₀ = f.low in
-              let a₁ = f.falls in
-              let a₂ = f.high in
-              let b₀ = s.pair.low in
-              let b₁ = s.pair.falls in
-              let b₂ = s.pair.high in
               let k = few in
               omega arith
 
           same-i : i' ≡ i
           same-i =
-              let a₀ = f.low in
-              let b₀ = s.pair.low in
               let k = same-j in
               omega arith
 
-  -- an accepted declaration keeps the table valid
-  pub declares-valid : (table : List Relation) (d : List Bool) (table' : List Relation) (d' : List Bool) → declare_answer m o n d j i c tail ≡ passed
-      → Declares j i c tail table d table' d' → Valid m o n table → Valid m o n table'
-  declares-valid table d table' d' h a v =
-      let s = seen m o n j i d c tail h in
-      subst (Valid m o n) (sym a.table_is) (set-valid d table a.relation s (declared-valid m o n j i d c tail a.relation s a.full a.says) v)
+  -- a relation that passed its checks keeps the table valid
+  pub related-valid : (c : ℕ) (tail : List Term) (r : Relation) → check_relation m o n j i c tail ≡ passed → AllFull tail → Says r c tail
+      → Valid m o n table → Valid m o n (set table (pair_place j i) r)
+  related-valid c tail r h f a v = set-valid r (valid_relation m o n j i c tail r (checked m o n j i c tail h) f a) v
+
+-- so does an accepted declaration
+pub declares-valid : (m : Coding) (o : OrderModel) (n j i c : ℕ) (tail : List Term) (table : List Relation) (d : List Bool) (table' : List Relation) (d' : List Bool)
+    → declare_answer m o n d j i c tail ≡ passed → Declares j i c tail table d table' d' → Valid m o n table → Valid m o n table'
+declares-valid m o n j i c tail table d table' d' h a v =
+    let s = seen m o n j i d c tail h in
+    subst (Valid m o n) (sym a.table_is) (related-valid m o n j i s.pair table c tail a.relation s.rest a.full a.says v)

@@ -1,7 +1,6 @@
 -- What a declaration x_j x_i = c x_i x_j + tail comes to: its checks in their order, and the presentation after it.
 use Rattle.std.specs.Prelude.{◌≡◌, ℕ, ◌+◌, ◌-◌, Bool, true, false, cond, not, ◌&&◌, List, [], ◌∷◌, length, Some, None, Ok, Err, Option, Result, ◌==◌, nat_le, nat_lt, slice_index_or}
-use Rattle.std.specs.declared.cmp.Ordering.TheVariants.{Less, Equal, Greater}
-use Rattle.std.specs.declared.cmp.Ordering.{Ordering}
+use Rattle.std.specs.Ordering.{is_lt}
 use Rattle.coefficients.specs.Coding.{Coding}
 use Rattle.coefficients.specs.declared.fault.RingFault.TheVariants.{NotInUse}
 use Rattle.orders.specs.Letters.{letters, image, row_places}
@@ -20,6 +19,11 @@ use Rattle.relations.specs.declared.fault.DeclareFault.{DeclareFault}
 abbrev pub passed : Result (Unit {0}) DeclareFault
 passed = Ok tt
 
+-- the same, or the fault at a term of the tail
+abbrev pub at_term : {A : Type 0} → ℕ → Result A DeclareCause → Result A DeclareFault
+at_term p (Ok x) = Ok x
+at_term p (Err f) = Err (record { cause = f; term = p })
+
 -- r where the test passes, else the fault
 abbrev pub check : {A : Type 0} → Bool → DeclareCause → ℕ → Result A DeclareFault → Result A DeclareFault
 check b f p r = cond b r (Err (record { cause = f; term = p }))
@@ -36,19 +40,14 @@ letters_to n (x ∷ w) = nat_le x n && letters_to n w
 abbrev pub is_word : ℕ → List ℕ → Bool
 is_word n row = is_row row && letters_to n (letters row)
 
-abbrev pub is_less : Ordering → Bool
-is_less Less = true
-is_less Equal = false
-is_less Greater = false
-
 -- the word of t is below that of the term before, if there is one
 abbrev pub below_last : OrderModel → Option Term → Term → Bool
 below_last o None t = true
-below_last o (Some s) t = is_less (compare_terms o t s)
+below_last o (Some s) t = is_lt (compare_terms o t s)
 
 -- the image of u is before the image of v
 abbrev pub image_before : OrderModel → List ℕ → List ℕ → Bool
-image_before o u v = is_less (compare_images o (image u) (image v))
+image_before o u v = is_lt (compare_images o (image u) (image v))
 
 -- the checks of the term t at place p of a tail, behind the term `last`, then r
 abbrev pub check_term : {A : Type 0} → Coding → OrderModel → ℕ → ℕ → ℕ → Option Term → ℕ → Term → Result A DeclareFault → Result A DeclareFault
@@ -79,7 +78,10 @@ check_pair n declared j i r =
 abbrev pub check_factor : {A : Type 0} → Coding → ℕ → Result A DeclareFault → Result A DeclareFault
 check_factor m c r = check (m.used c) (Coefficient NotInUse) 0 (check (not (c == 0)) FactorZero 0 r)
 
+-- those of the relation, whatever was declared
+abbrev pub check_relation : Coding → OrderModel → ℕ → ℕ → ℕ → ℕ → List Term → Result (Unit {0}) DeclareFault
+check_relation m o n j i c tail = check_factor m c (check (nat_le (length tail) 8) TailSize 0 (check_tail m o n j i None 1 tail passed))
+
 -- whether the declaration is taken, or why not
 unfoldable pub declare_answer : Coding → OrderModel → ℕ → List Bool → ℕ → ℕ → ℕ → List Term → Result (Unit {0}) DeclareFault
-declare_answer m o n declared j i c tail =
-    check_pair n declared j i (check_factor m c (check (nat_le (length tail) 8) TailSize 0 (check_tail m o n j i None 1 tail passed)))
+declare_answer m o n declared j i c tail = check_pair n declared j i (check_relation m o n j i c tail)

@@ -1,7 +1,6 @@
 // Why a declaration is refused, and at which term of the tail.
 ghost use Rattle.std.specs.Prelude.{◌≡◌};
-ghost use Rattle.relations.specs.Faults.{number_and_layer, declare_refusal};
-ghost use Rattle.relations.specs.declared.fault.DeclareCause.TheVariants.{Coefficient};
+ghost use Rattle.relations.specs.Faults.{cause_refusal, declare_refusal};
 
 use coefficients::fault::RingFault;
 use refusals::Refusal;
@@ -32,37 +31,47 @@ pub struct DeclareFault {
 }
 
 impl DeclareCause {
-    fn number_and_layer(&self) -> (u8, u8)
-        ensures { result ≡ number_and_layer self.now }
+    // At a term of the tail.
+    pub(crate) fn at(self, term: u64) -> DeclareFault
+        ensures { result ≡ record { cause = self; term = term } }
     {
-        match self {
-            DeclareCause::Generator => (2, 3),
-            DeclareCause::NotRising => (3, 3),
-            DeclareCause::AlreadyDeclared => (20, 3),
-            DeclareCause::Coefficient(f) => {
-                let r = f.refusal();
-                (r.number, r.layer)
-            }
-            DeclareCause::FactorZero => (5, 3),
-            DeclareCause::TailSize => (6, 3),
-            DeclareCause::TailNotKept => (7, 3),
-            DeclareCause::TailNotBefore => (8, 3),
+        DeclareFault { cause: self, term }
+    }
+}
+
+// At no term.
+impl From<DeclareCause> for DeclareFault {
+    ghost from_gives = { λ e r. r ≡ record { cause = e; term = 0 } };
+
+    fn from(cause: DeclareCause) -> DeclareFault {
+        cause.at(0)
+    }
+}
+
+impl From<DeclareCause> for Refusal {
+    ghost from_gives = { λ e r. r ≡ cause_refusal e };
+
+    fn from(cause: DeclareCause) -> Refusal {
+        match cause {
+            DeclareCause::Generator => Refusal::plain(2, 3),
+            DeclareCause::NotRising => Refusal::plain(3, 3),
+            DeclareCause::AlreadyDeclared => Refusal::plain(20, 3),
+            DeclareCause::Coefficient(fault) => Refusal::from(fault),
+            DeclareCause::FactorZero => Refusal::plain(5, 3),
+            DeclareCause::TailSize => Refusal::plain(6, 3),
+            DeclareCause::TailNotKept => Refusal::plain(7, 3),
+            DeclareCause::TailNotBefore => Refusal::plain(8, 3),
         }
     }
 }
 
-impl DeclareFault {
-    pub fn refusal(&self) -> Refusal
-        ensures { result ≡ declare_refusal self.now }
-    {
-        let (number, layer) = self.cause.number_and_layer();
+impl From<DeclareFault> for Refusal {
+    ghost from_gives = { λ e r. r ≡ declare_refusal e };
+
+    fn from(fault: DeclareFault) -> Refusal {
         Refusal {
-            number,
-            layer,
-            step: 0,
-            a: 0,
-            b: self.term,
-            e: 0,
+            b: fault.term,
+            ..Refusal::from(fault.cause)
         }
     }
 }

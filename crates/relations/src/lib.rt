@@ -4,4 +4,6 @@
 pub mod count;
 pub mod fault;
 pub mod open;
-pub mod tail;
+mod pair;
+pub mod presentation;
+pub mod row;

@@ -1,21 +1,14 @@
 // Open algebras.
-use crate::count::Count;
-use run::relation::Table;
+use crate::presentation::Presentation;
+use coefficients::ring::Ring;
+use orders::order::MonomialOrder;
 
-// How many generators there are, the relation of each pair, and which pairs were declared.
+// A presentation that relations can be declared in, and which pairs were declared. The marks lie beside the table of relations, pair by pair:
+// a closed algebra goes on with a plain table, and needs no marks.
 #[derive(Drop)]
-pub struct Presentation {
-    count: Count,
-    table: Table,
+pub struct Open<R: Ring, O: MonomialOrder> {
+    presentation: Presentation<R, O>,
     declared: [bool; 64],
-}
-
-// A ring, an order and a presentation that relations can be declared in.
-#[derive(Drop)]
-pub struct Open<R, O> {
-    ring: R,
-    order: O,
-    presentation: Presentation,
 }
 
 mod methods;

@@ -1,91 +1,110 @@
 // Calculations in a closed algebra. Both memories may hold anything and have any size. After an answer the result memory holds the terms and
 // then blanks, after a refusal blanks; work memory is blank after both.
-ghost use Rattle.std.specs.Prelude.{◌≡◌, ◌++◌, length, Ok, Err};
-ghost use Rattle.algebra.specs.Calls.{Answered, when_sound, scan_first, scan_second, normalise as normal_form, sum as sum_form, difference as difference_form, product as product_form};
-ghost use Rattle.algebra.specs.Meaning.{Formed};
+ghost use Rattle.std.specs.Prelude.{◌≡◌, ◌++◌, Ok, length};
+ghost use Rattle.run.specs.Calls.{calculate as run_answer};
+ghost use Rattle.run.specs.Entries.{then_do};
+ghost use Rattle.algebra.specs.Calls.{Answered, in_first, when_sound, first_list, second_list, checks, calculation_answer, normalise as normal_form, sum as sum_form, difference as difference_form, product as product_form};
+ghost use Rattle.algebra.specs.Overlaps.{passed, by_run};
+ghost use Rattle.algebra.specs.Scans.{placed};
+ghost use Rattle.algebra.specs.Meaning.{Formed, free_sum};
 ghost use Rattle.normal_forms.specs.Terms.{sum_of};
-ghost use Rattle.normal_forms.specs.Relations.{Valid};
 ghost use Rattle.theory.specs.FreeSum.{negate, times};
 
 use crate::closed::Closed;
-use crate::fault::{AlgebraFault, CallCause, CallFault};
-use crate::scan::{check_first, check_second};
+use crate::fault::{AlgebraFault, CallCause};
+use crate::scan::{Side, check_list};
 use crate::verdict::Verdict;
 use coefficients::ring::Ring;
 use orders::order::MonomialOrder;
-use run::calls::{difference, normalise, product, sum};
+use run::calls::Calculation;
 use run::engine::blank_all;
+use run::source::Source;
 use words::term::Term;
 
-// A refusal: both memories are blank.
-pub(crate) fn refuse(
-    fault: AlgebraFault,
-    work: &mut [Term],
-    out: &mut [Term],
-) -> Result<(usize, u64), AlgebraFault>
-    ensures { Answered (Err fault) work.new out.new result }
+// The lists of a calculation; the second is empty where there is one.
+fn lists<'a>(calculation: Calculation<'a>) -> (&'a [Term], &'a [Term])
+    ensures first { result.0.now ≡ first_list calculation.entry }
+    ensures second { result.1.now ≡ second_list calculation.entry }
 {
-    blank_all(work);
-    blank_all(out);
-    Err(fault)
+    match calculation {
+        Calculation::Normalise(list) => (list, &[]),
+        Calculation::Sum(first, second) => (first, second),
+        Calculation::Difference(first, second) => (first, second),
+        Calculation::Product(first, second) => (first, second),
+    }
 }
 
 impl<R: Ring, O: MonomialOrder> Closed<R, O> {
     // A calculation is refused unless the algebra is sound.
-    fn check_sound(&self) -> Result<(), AlgebraFault>
-        ensures { result ≡ when_sound self.now.verdict (Ok tt) }
+    fn check_sound(&self) -> Result<(), CallCause>
+        ensures { placed (in_first 0) result ≡ when_sound self.now.verdict passed }
     {
         match self.verdict {
             Verdict::Sound => Ok(()),
-            Verdict::Undecided => Err(AlgebraFault::Call(CallFault {
-                cause: CallCause::Undecided,
-                a: 0,
-                b: 0,
-            })),
-            Verdict::Degenerate(_, _, _) => Err(AlgebraFault::Call(CallFault {
-                cause: CallCause::Degenerate,
-                a: 0,
-                b: 0,
-            })),
+            Verdict::Undecided => Err(CallCause::Undecided),
+            Verdict::Degenerate(_, _, _) => Err(CallCause::Degenerate),
         }
     }
 
-    // The checks of a calculation with one list.
-    fn check_one(&self, list: &[Term]) -> Result<(), AlgebraFault>
-        ensures { result ≡ when_sound self.now.verdict (scan_first (R.Ring.model self.now.ring) self.now.count.n 1 list.now (Ok tt)) }
+    // A calculation, where it passes its checks.
+    fn checked<'a>(&self, calculation: Calculation<'a>) -> Result<Calculation<'a>, AlgebraFault>
+        ensures { result ≡ checks (R.model self.now.presentation.rules.ring) self.now.presentation.count.n self.now.verdict calculation.entry (Ok calculation.entry) }
     {
         self.check_sound()?;
-        check_first(&self.ring, self.count.value(), list)
+        let (first, second) = lists(calculation);
+        check_list(&self.presentation, Side::First, first)?;
+        check_list(&self.presentation, Side::Second, second)?;
+        Ok(calculation)
     }
 
-    // The checks of a calculation with two lists.
-    fn check_two(&self, first: &[Term], second: &[Term]) -> Result<(), AlgebraFault>
-        ensures { result ≡ when_sound self.now.verdict (scan_first (R.Ring.model self.now.ring) self.now.count.n 1 first.now (scan_second (R.Ring.model self.now.ring) self.now.count.n 1 second.now (Ok tt))) }
+    // The run of what passed its checks; where a check refused both memories are blank.
+    pub(crate) fn run<S: Source + Drop>(
+        &self,
+        source: Result<S, AlgebraFault>,
+        work: &mut [Term],
+        out: &mut [Term],
+    ) -> Result<(usize, u64), AlgebraFault>
+        ensures { Answered (then_do source (λ s. by_run (run_answer (R.model self.now.presentation.rules.ring) (O.model self.now.presentation.rules.order) self.now.presentation.rules.table (record { work = length work.old; result = length out.old }) (S.entries s (R.model self.now.presentation.rules.ring) self.now.presentation.rules.table)))) work.new out.new result }
     {
-        self.check_one(first)?;
-        check_second(&self.ring, self.count.value(), second)
+        match source {
+            Ok(source) => Ok(self.presentation.rules().calculate(&source, work, out)?),
+            Err(fault) => {
+                blank_all(work);
+                blank_all(out);
+                Err(fault)
+            }
+        }
+    }
+
+    // How many terms the normal form of what is calculated has, and how many steps it took.
+    fn calculate(
+        &self,
+        calculation: Calculation,
+        work: &mut [Term],
+        out: &mut [Term],
+    ) -> Result<(usize, u64), AlgebraFault>
+        ensures answer { Answered (calculation_answer (R.model self.now.presentation.rules.ring) (O.model self.now.presentation.rules.order) (record { work = length work.old; result = length out.old }) self.now.presentation.count.n self.now.presentation.rules.table self.now.verdict calculation.entry) work.new out.new result }
+        ensures meaning { Formed (R.model self.now.presentation.rules.ring) self.now.presentation.count.n self.now.presentation.rules.table (free_sum (R.model self.now.presentation.rules.ring) calculation.entry) out.new result }
+    {
+        self.run(self.checked(calculation), work, out)
     }
 
     // The normal form of a list of terms: how many terms it has, and how many steps it took.
+    #[tactic(auto, unfolding(crate::specs::Calls::normalise, crate::specs::Calls::calculation_answer))]
     pub fn normalise(
         &self,
         list: &[Term],
         work: &mut [Term],
         out: &mut [Term],
     ) -> Result<(usize, u64), AlgebraFault>
-        ensures answer { Answered (normal_form (R.Ring.model self.now.ring) (O.MonomialOrder.model self.now.order) (record { work = length work.old; result = length out.old }) self.now.count.n self.now.table self.now.verdict list.now) work.new out.new result }
-        ensures meaning { Valid (R.Ring.model self.now.ring) (O.MonomialOrder.model self.now.order) self.now.count.n self.now.table → Formed (R.Ring.model self.now.ring) self.now.count.n self.now.table (sum_of (R.Ring.model self.now.ring) list.now) out.new result }
+        ensures answer { Answered (normal_form (R.model self.now.presentation.rules.ring) (O.model self.now.presentation.rules.order) (record { work = length work.old; result = length out.old }) self.now.presentation.count.n self.now.presentation.rules.table self.now.verdict list.now) work.new out.new result }
+        ensures meaning { Formed (R.model self.now.presentation.rules.ring) self.now.presentation.count.n self.now.presentation.rules.table (sum_of (R.model self.now.presentation.rules.ring) list.now) out.new result }
     {
-        match self.check_one(list) {
-            Ok(_) => {
-                let answer = normalise(&self.ring, &self.order, &self.table, list, work, out)?;
-                Ok(answer)
-            }
-            Err(fault) => refuse(fault, work, out),
-        }
+        self.calculate(Calculation::Normalise(list), work, out)
     }
 
     // The normal form of the sum of two lists.
+    #[tactic(auto, unfolding(crate::specs::Calls::sum, crate::specs::Calls::calculation_answer))]
     pub fn sum(
         &self,
         first: &[Term],
@@ -93,27 +112,14 @@ impl<R: Ring, O: MonomialOrder> Closed<R, O> {
         work: &mut [Term],
         out: &mut [Term],
     ) -> Result<(usize, u64), AlgebraFault>
-        ensures answer { Answered (sum_form (R.Ring.model self.now.ring) (O.MonomialOrder.model self.now.order) (record { work = length work.old; result = length out.old }) self.now.count.n self.now.table self.now.verdict first.now second.now) work.new out.new result }
-        ensures meaning { Valid (R.Ring.model self.now.ring) (O.MonomialOrder.model self.now.order) self.now.count.n self.now.table → Formed (R.Ring.model self.now.ring) self.now.count.n self.now.table (sum_of (R.Ring.model self.now.ring) first.now ++ sum_of (R.Ring.model self.now.ring) second.now) out.new result }
+        ensures answer { Answered (sum_form (R.model self.now.presentation.rules.ring) (O.model self.now.presentation.rules.order) (record { work = length work.old; result = length out.old }) self.now.presentation.count.n self.now.presentation.rules.table self.now.verdict first.now second.now) work.new out.new result }
+        ensures meaning { Formed (R.model self.now.presentation.rules.ring) self.now.presentation.count.n self.now.presentation.rules.table (sum_of (R.model self.now.presentation.rules.ring) first.now ++ sum_of (R.model self.now.presentation.rules.ring) second.now) out.new result }
     {
-        match self.check_two(first, second) {
-            Ok(_) => {
-                let answer = sum(
-                    &self.ring,
-                    &self.order,
-                    &self.table,
-                    first,
-                    second,
-                    work,
-                    out,
-                )?;
-                Ok(answer)
-            }
-            Err(fault) => refuse(fault, work, out),
-        }
+        self.calculate(Calculation::Sum(first, second), work, out)
     }
 
     // The normal form of the first list minus the second.
+    #[tactic(auto, unfolding(crate::specs::Calls::difference, crate::specs::Calls::calculation_answer))]
     pub fn difference(
         &self,
         first: &[Term],
@@ -121,27 +127,14 @@ impl<R: Ring, O: MonomialOrder> Closed<R, O> {
         work: &mut [Term],
         out: &mut [Term],
     ) -> Result<(usize, u64), AlgebraFault>
-        ensures answer { Answered (difference_form (R.Ring.model self.now.ring) (O.MonomialOrder.model self.now.order) (record { work = length work.old; result = length out.old }) self.now.count.n self.now.table self.now.verdict first.now second.now) work.new out.new result }
-        ensures meaning { Valid (R.Ring.model self.now.ring) (O.MonomialOrder.model self.now.order) self.now.count.n self.now.table → Formed (R.Ring.model self.now.ring) self.now.count.n self.now.table (sum_of (R.Ring.model self.now.ring) first.now ++ negate (sum_of (R.Ring.model self.now.ring) second.now)) out.new result }
+        ensures answer { Answered (difference_form (R.model self.now.presentation.rules.ring) (O.model self.now.presentation.rules.order) (record { work = length work.old; result = length out.old }) self.now.presentation.count.n self.now.presentation.rules.table self.now.verdict first.now second.now) work.new out.new result }
+        ensures meaning { Formed (R.model self.now.presentation.rules.ring) self.now.presentation.count.n self.now.presentation.rules.table (sum_of (R.model self.now.presentation.rules.ring) first.now ++ negate (sum_of (R.model self.now.presentation.rules.ring) second.now)) out.new result }
     {
-        match self.check_two(first, second) {
-            Ok(_) => {
-                let answer = difference(
-                    &self.ring,
-                    &self.order,
-                    &self.table,
-                    first,
-                    second,
-                    work,
-                    out,
-                )?;
-                Ok(answer)
-            }
-            Err(fault) => refuse(fault, work, out),
-        }
+        self.calculate(Calculation::Difference(first, second), work, out)
     }
 
     // The normal form of the product of two lists.
+    #[tactic(auto, unfolding(crate::specs::Calls::product, crate::specs::Calls::calculation_answer))]
     pub fn product(
         &self,
         first: &[Term],
@@ -149,23 +142,9 @@ impl<R: Ring, O: MonomialOrder> Closed<R, O> {
         work: &mut [Term],
         out: &mut [Term],
     ) -> Result<(usize, u64), AlgebraFault>
-        ensures answer { Answered (product_form (R.Ring.model self.now.ring) (O.MonomialOrder.model self.now.order) (record { work = length work.old; result = length out.old }) self.now.count.n self.now.table self.now.verdict first.now second.now) work.new out.new result }
-        ensures meaning { Valid (R.Ring.model self.now.ring) (O.MonomialOrder.model self.now.order) self.now.count.n self.now.table → Formed (R.Ring.model self.now.ring) self.now.count.n self.now.table (times (sum_of (R.Ring.model self.now.ring) first.now) (sum_of (R.Ring.model self.now.ring) second.now)) out.new result }
+        ensures answer { Answered (product_form (R.model self.now.presentation.rules.ring) (O.model self.now.presentation.rules.order) (record { work = length work.old; result = length out.old }) self.now.presentation.count.n self.now.presentation.rules.table self.now.verdict first.now second.now) work.new out.new result }
+        ensures meaning { Formed (R.model self.now.presentation.rules.ring) self.now.presentation.count.n self.now.presentation.rules.table (times (sum_of (R.model self.now.presentation.rules.ring) first.now) (sum_of (R.model self.now.presentation.rules.ring) second.now)) out.new result }
     {
-        match self.check_two(first, second) {
-            Ok(_) => {
-                let answer = product(
-                    &self.ring,
-                    &self.order,
-                    &self.table,
-                    first,
-                    second,
-                    work,
-                    out,
-                )?;
-                Ok(answer)
-            }
-            Err(fault) => refuse(fault, work, out),
-        }
+        self.calculate(Calculation::Product(first, second), work, out)
     }
 }

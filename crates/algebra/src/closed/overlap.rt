@@ -4,10 +4,8 @@ ghost use Rattle.algebra.specs.Calls.{Answered};
 ghost use Rattle.algebra.specs.Overlaps.{overlap_call};
 
 use crate::closed::Closed;
-use crate::closed::calls::refuse;
 use crate::fault::AlgebraFault;
-use crate::overlap::run_overlap;
-use crate::triple::rising_letters;
+use crate::triple::Triple;
 use coefficients::ring::Ring;
 use orders::order::MonomialOrder;
 use words::term::Term;
@@ -23,15 +21,9 @@ impl<R: Ring, O: MonomialOrder> Closed<R, O> {
         work: &mut [Term],
         out: &mut [Term],
     ) -> Result<(usize, u64), AlgebraFault>
-        ensures { Answered (overlap_call (R.Ring.model self.now.ring) (O.MonomialOrder.model self.now.order) (record { work = length work.old; result = length out.old }) self.now.count.n self.now.table i j k) work.new out.new result }
+        ensures { Answered (overlap_call (R.model self.now.presentation.rules.ring) (O.model self.now.presentation.rules.order) (record { work = length work.old; result = length out.old }) self.now.presentation.count.n self.now.presentation.rules.table i j k) work.new out.new result }
     {
-        let n = self.count.value();
-        match rising_letters(n, i, j, k) {
-            Ok((x, y, z)) => {
-                let answer = run_overlap(&self.ring, &self.order, &self.table, x, y, z, work, out)?;
-                Ok(answer)
-            }
-            Err(fault) => refuse(fault, work, out),
-        }
+        let triple = Triple::rising(self.presentation.count(), i, j, k);
+        self.run(triple.map_err(AlgebraFault::from), work, out)
     }
 }
