@@ -4,6 +4,7 @@ ghost use Rattle.answers.specs.Text.{report_bytes, refused_bytes};
 
 use crate::fault::ScriptFault;
 use algebra::verdict::Verdict;
+use refusals::Refusal;
 use std::alloc::{AllocError, Global};
 use std::fmt;
 use std::fmt::Display;
@@ -44,7 +45,7 @@ impl Display for RefusedLine {
 
     fn fmt<W: fmt::Write>(&self, f: &mut fmt::Formatter<W>) -> fmt::Result {
         let line = self.number;
-        let r = self.fault.refusal();
+        let r = Refusal::from(self.fault);
         let (number, layer, step, a, b, e) = (r.number, r.layer, r.step, r.a, r.b, r.e);
         let (i, j, k) = self.fault.triple().unwrap_or((0, 0, 0));
         write!(

@@ -94,11 +94,11 @@ module _ (s : Setting) (cap : ℕ) where
   run_stop ps i d st x within refused = run_more ps i d st within ∙ ap (λ r. and_then r (λ u. run_rest (drop (i + 1) ps) u)) refused
 
 -- the same on a workbench, of which a call leaves the place where it calculates as it was
-module _ {R O : Type 0} (rings : R → Coding) (orders : O → OrderModel) where
-  abbrev pub rest_at : Workbench R O → ℕ → List Piece → Stack → Result Stack ScriptFault
+module _ {R O : Type 0} {kr : _} {ko : _} (rings : R → Coding) (orders : O → OrderModel) where
+  abbrev pub rest_at : Workbench R O kr ko → ℕ → List Piece → Stack → Result Stack ScriptFault
   rest_at b cap ps st = run_rest (place rings orders b) cap ps st
 
-  pub rest_same : (b b' : Workbench R O) (cap cap' : ℕ) (ps : List Piece) (st : Stack) → Same b b' → cap' ≡ cap → rest_at b' cap' ps st ≡ rest_at b cap ps st
+  pub rest_same : (b b' : Workbench R O kr ko) (cap cap' : ℕ) (ps : List Piece) (st : Stack) → Same b b' → cap' ≡ cap → rest_at b' cap' ps st ≡ rest_at b cap ps st
   rest_same b b' cap cap' ps st same room =
       ap (λ a. run_rest (setting rings orders (length b'.work.now) a) cap' ps st) same.algebra
       ∙ ap (λ n. run_rest (setting rings orders n b.algebra.now) cap' ps st) same.work

@@ -1,11 +1,16 @@
 -- What a call answered as a value.
 use Rattle.std.proofs.Common.{◌≡◌, ℕ, List, [], ◌∷◌, Ok, Err, Result, sym, ap, ◌∙◌}
+use Rattle.coefficients.specs.Coding.{Coding}
+use Rattle.orders.specs.Models.{OrderModel}
 use Rattle.words.specs.declared.term.Term.{Term}
 use Rattle.words.specs.declared.word.WordFault.{WordFault}
 use Rattle.words.specs.Growth.{grown, answer, value_or}
 use Rattle.words.specs.Rows.{row_of}
+use Rattle.run.specs.declared.relation.Relation.{Relation}
 use Rattle.run.specs.Step.{Outcome}
+use Rattle.run.specs.Calls.{Memory}
 use Rattle.algebra.specs.declared.fault.AlgebraFault.{AlgebraFault}
+use Rattle.algebra.specs.declared.verdict.Verdict.{Verdict}
 use Rattle.algebra.specs.Calls.{Answered}
 use Rattle.answers.specs.declared.fault.ScriptFault.{ScriptFault}
 use Rattle.evaluation.specs.Coefficients.{and_then, by_ring}
@@ -15,11 +20,12 @@ pub answered-value : (want : Result Outcome AlgebraFault) (work out : List Term)
 answered-value want work out (Ok p) h = ap by_algebra h.1
 answered-value want work out (Err e) h = sym (ap by_algebra h.0)
 
--- where the result memory has 64 places, and these are the lists
-pub answered_with : (want : ℕ → List Term → List Term → Result Outcome AlgebraFault) (places : ℕ) {ts ts' us us' : List Term} (work out : List Term) (r : Result (ℕ × ℕ) AlgebraFault)
-    → places ≡ 64 → ts' ≡ ts → us' ≡ us → Answered (want places ts' us') work out r → by_answer r out ≡ by_algebra (want 64 ts us)
-answered_with want places {ts} {ts'} {us} {us'} work out r p t u h =
-    answered-value (want places ts' us') work out r h ∙ ap (λ k. by_algebra (want k ts' us')) p ∙ ap (λ l. by_algebra (want 64 l us')) t ∙ ap (λ l. by_algebra (want 64 ts l)) u
+-- a call in a setting, where the result memory has 64 places
+pub called : (s : Setting) (call : Coding → OrderModel → Memory → ℕ → List Relation → Verdict → Result Outcome AlgebraFault) (places : ℕ) (work out : List Term) (r : Result (ℕ × ℕ) AlgebraFault)
+    → places ≡ 64 → Answered (call s.coding s.order (record { work = s.memory.work; result = places }) s.count s.table s.verdict) work out r
+    → by_answer r out ≡ by_algebra (call s.coding s.order (record { work = s.memory.work; result = 64 }) s.count s.table s.verdict)
+called s call places work out r full h =
+    answered-value _ work out r h ∙ ap (λ k. by_algebra (call s.coding s.order (record { work = s.memory.work; result = k }) s.count s.table s.verdict)) full
 
 -- a word that has grown
 pub grown_on : (w v : List ℕ) (x : ℕ) (u : Unit {0}) → Ok u ≡ answer (grown w x) → v ≡ value_or w (grown w x) → grown w x ≡ Ok v

@@ -16,7 +16,7 @@ use words::word::Word;
 
 // A closed algebra and the memories that its calls take.
 #[derive(Drop)]
-pub(crate) struct Workbench<'a, R, O> {
+pub(crate) struct Workbench<'a, R: Ring, O: MonomialOrder> {
     pub(crate) algebra: &'a Closed<R, O>,
     pub(crate) work: &'a mut [Term],
     pub(crate) out: &'a mut [Term; VALUE_TERMS],

@@ -9,15 +9,14 @@ use Rattle.evaluation.specs.Coefficients.{and_then, by_ring, all_read}
 use Rattle.answers.specs.Answers.{refused}
 use Rattle.answers.specs.declared.failure.Failure.{Failure}
 use Rattle.answers.specs.declared.failure.Failure.TheVariants.{Refused, Memory}
-use Rattle.session.specs.declared.state.Stage.TheVariants as stage
 use Rattle.session.specs.declared.answer.Answer.{Answer}
-use Rattle.session.specs.State.{State, state_of}
+use Rattle.session.specs.State.{State, open_state}
 use Rattle.session.specs.Turns.{Turn}
 use Rattle.session.specs.Answers.{answer_of}
 
 -- an open algebra of this state, or the fault
-abbrev pub Opens : Result State ScriptFault → Result (Open AnyRing AnyOrder) ScriptFault → Type 0
-Opens want (Ok a) = want ≡ Ok (state_of (stage.Open a))
+abbrev pub Opens : {kr : _} {ko : _} → Result State ScriptFault → Result (Open AnyRing AnyOrder kr ko) ScriptFault → Type 0
+Opens want (Ok a) = want ≡ Ok (open_state a)
 Opens want (Err e) = want ≡ Err e
 
 -- the code of the factor c, where it and all others are read

@@ -11,8 +11,8 @@ use crate::memory::Memory;
 use crate::state::Session;
 use answers::failure::Failure;
 use answers::text::{RefusedLine, push_printed};
-use grammar::piece::Piece;
-use grammar::reader::{LINE_LENGTH, read_line};
+use grammar::piece::Pieces;
+use grammar::reader::read_line;
 use std::alloc::{AllocError, Global};
 
 // Appends the answer of a turn. Where there was no memory, there is none for the answer either.
@@ -42,9 +42,9 @@ impl Session {
     ) -> Result<Answer, Failure>
         ensures { Turned (line_turn (state_of self.old.stage) line.now) (state_of self.new.stage) result }
     {
-        let mut pieces = [Piece::Generator(0); LINE_LENGTH];
+        let mut pieces = Pieces::new();
         let form = read_line(line, &mut pieces)?;
-        self.turn(heap, form, &pieces, memory)
+        self.turn(heap, form, memory)
     }
 
     // Answers a line: the bytes of the answer and a byte 10.
