@@ -8,6 +8,8 @@ use Rattle.algebra.specs.declared.verdict.Verdict.{Verdict}
 use Rattle.algebra.specs.declared.verdict.Verdict.TheVariants.{Undecided, Sound, Degenerate}
 use Rattle.answers.specs.Faults.{script_refusal, script_triple}
 use Rattle.answers.specs.declared.fault.ScriptFault.{ScriptFault}
+use Rattle.answers.specs.declared.text.Report.{Report}
+use Rattle.answers.specs.declared.text.Report.TheVariants.{Opened, Declared, Decided}
 
 abbrev pub opened_bytes : List ℕ
 opened_bytes = codes "(opened)"
@@ -25,6 +27,11 @@ abbrev pub verdict_bytes : Verdict → List ℕ
 verdict_bytes Undecided = []
 verdict_bytes Sound = codes "(sound)"
 verdict_bytes (Degenerate i j k) = codes "(degenerate" ++ (numbers_bytes (i ∷ j ∷ k ∷ []) ++ codes ")")
+
+abbrev pub report_bytes : Report → List ℕ
+report_bytes Opened = opened_bytes
+report_bytes Declared = declared_bytes
+report_bytes (Decided v) = verdict_bytes v
 
 -- number and layer, the line, the places, the triple
 abbrev pub refusal_numbers : ℕ → Refusal → ℕ × ℕ × ℕ → List ℕ

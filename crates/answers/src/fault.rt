@@ -1,6 +1,6 @@
 // Why a line of a script is refused: the faults of every layer below, and a form out of turn.
 ghost use Rattle.std.specs.Prelude.{◌≡◌};
-ghost use Rattle.answers.specs.Faults.{script_refusal, script_triple};
+ghost use Rattle.answers.specs.Faults.{script_refusal, decision_triple};
 ghost use Rattle.answers.specs.declared.fault.ScriptFault.TheVariants.{Form, Coefficient, Word, Count, Modulus, Weight, Declare, Algebra, Decide};
 
 use algebra::fault::{AlgebraFault, DecideFault};
@@ -102,32 +102,34 @@ impl From<DecideFault> for ScriptFault {
     }
 }
 
-impl ScriptFault {
-    // Number, layer and places.
-    pub fn refusal(&self) -> Refusal
-        ensures { result ≡ script_refusal self.now }
-    {
-        match self {
-            ScriptFault::Form(f) => f.refusal(),
+// Number, layer and places.
+impl From<ScriptFault> for Refusal {
+    ghost from_gives = { λ e r. r ≡ script_refusal e };
+
+    fn from(e: ScriptFault) -> Refusal {
+        match e {
+            ScriptFault::Form(f) => Refusal::from(f),
             ScriptFault::OutOfTurn => Refusal::plain(26, 4),
-            ScriptFault::Coefficient(f) => f.refusal(),
-            ScriptFault::Word(f) => f.refusal(),
-            ScriptFault::Count(f) => f.refusal(),
-            ScriptFault::Modulus(f) => f.refusal(),
-            ScriptFault::Weight(f) => f.refusal(),
-            ScriptFault::Declare(f) => f.refusal(),
-            ScriptFault::Algebra(f) => f.refusal(),
-            ScriptFault::Decide(f) => f.overlap.refusal(),
+            ScriptFault::Coefficient(f) => Refusal::from(f),
+            ScriptFault::Word(f) => Refusal::from(f),
+            ScriptFault::Count(f) => Refusal::from(f),
+            ScriptFault::Modulus(f) => Refusal::from(f),
+            ScriptFault::Weight(f) => Refusal::from(f),
+            ScriptFault::Declare(f) => Refusal::from(f),
+            ScriptFault::Algebra(f) => Refusal::from(f),
+            ScriptFault::Decide(f) => Refusal::from(f),
         }
     }
+}
 
-    // The triple of a decision's fault, else zeros.
-    pub fn triple(&self) -> (u64, u64, u64)
-        ensures { result ≡ script_triple self.now }
+impl ScriptFault {
+    // The triple that a decision was refused at.
+    pub fn triple(&self) -> Option<(u64, u64, u64)>
+        ensures { result ≡ decision_triple self.now }
     {
         match self {
-            ScriptFault::Decide(f) => (f.i, f.j, f.k),
-            _ => (0, 0, 0),
+            ScriptFault::Decide(f) => Some((f.i, f.j, f.k)),
+            _ => None,
         }
     }
 }

@@ -2,6 +2,7 @@
 #![tactic(auto)]
 
 pub mod examples;
+pub mod failure;
 pub mod fault;
 pub mod list;
 pub mod text;

@@ -1,29 +1,35 @@
 // Lists of terms as answers, appended to what is written already.
-ghost use Rattle.std.specs.Prelude.{◌≡◌, ◌++◌, OnOk};
+ghost use Rattle.std.specs.Prelude.{◌≡◌, ◌++◌, Some, OnOk};
 ghost use Rattle.orders.specs.Letters.{letters};
 ghost use Rattle.choices.specs.Rings.{ring_model};
 ghost use Rattle.answers.specs.Laws.{ToldApart};
 ghost use Rattle.answers.specs.Text.{letters_bytes, written, term_bytes, terms_bytes, list_bytes};
 
+use crate::text::push_printed;
 use choices::ring::AnyRing;
 use coefficients::ring::Ring;
-use orders::letter::{Row, is_letter};
+use orders::letter::is_letter;
 use std::alloc::{AllocError, Global};
+use std::fmt;
+use std::fmt::Display;
 use words::term::Term;
 
 // The letters of a row, each as x and its number behind a space.
-fn push_letters(heap: Global, out: &mut Vec<u8>, row: &Row) -> Result<(), AllocError>
-    ensures { OnOk result (out.new.items ≡ out.old.items ++ letters_bytes (letters row.now)) }
-{
-    for x in row {
-        let n = *x;
-        if !is_letter(n) {
-            return Ok(());
+#[derive(Clone, Copy)]
+struct Letters<'a>(&'a [u8]);
+
+impl<'a> Display for Letters<'a> {
+    ghost output = { λ w. Some (letters_bytes (letters w.0.now)) };
+
+    fn fmt<W: fmt::Write>(&self, f: &mut fmt::Formatter<W>) -> fmt::Result {
+        for x in self.0 {
+            if !is_letter(*x) {
+                break;
+            }
+            write!(f, " x{x}")?;
         }
-        let text = format!(in heap; " x{n}")?;
-        out.extend_from_slice(text.as_bytes())?;
+        Ok(())
     }
-    Ok(())
 }
 
 // The writing of a code, and nothing where it is not in use.
@@ -32,7 +38,7 @@ fn push_code<R: Ring>(out: &mut Vec<u8>, ring: &R, code: u64) -> Result<(), Allo
 {
     let mut writing = [0u8; 80];
     if let Ok(n) = ring.write(code, &mut writing) {
-        out.extend_from_slice(&writing[0..n])?;
+        out.extend_from_slice(&writing[..n])?;
     }
     Ok(())
 }
@@ -45,10 +51,10 @@ fn push_term<R: Ring>(
 ) -> Result<(), AllocError>
     ensures { OnOk result (out.new.items ≡ out.old.items ++ term_bytes (R.model ring.now) term.now) }
 {
-    out.extend_from_slice(b"(")?;
+    out.push(b'(')?;
     push_code(out, ring, term.code)?;
-    push_letters(heap, out, &term.row)?;
-    out.extend_from_slice(b")")?;
+    push_printed(heap, out, &Letters(&term.row))?;
+    out.push(b')')?;
     Ok(())
 }
 
@@ -62,7 +68,7 @@ fn push_terms<R: Ring>(
     ensures { OnOk result (out.new.items ≡ out.old.items ++ terms_bytes (R.model ring.now) terms.now) }
 {
     for term in terms {
-        out.extend_from_slice(b" ")?;
+        out.push(b' ')?;
         push_term(heap, out, ring, term)?;
     }
     Ok(())
@@ -78,7 +84,7 @@ pub fn push_list<R: Ring>(
 {
     out.extend_from_slice(b"(list")?;
     push_terms(heap, out, ring, terms)?;
-    out.extend_from_slice(b")")?;
+    out.push(b')')?;
     Ok(())
 }
 

@@ -1,65 +1,68 @@
-// Answers other than lists, appended to what is written already.
-ghost use Rattle.std.specs.Prelude.{◌≡◌, ◌++◌, OnOk};
-ghost use Rattle.answers.specs.Text.{opened_bytes, declared_bytes, numbers_bytes, verdict_bytes, refused_bytes};
+// Answers that are text: what a line reports, and why it is refused.
+ghost use Rattle.std.specs.Prelude.{◌≡◌, ◌++◌, Some, IfSome, OnOk};
+ghost use Rattle.answers.specs.Text.{report_bytes, refused_bytes};
 
 use crate::fault::ScriptFault;
 use algebra::verdict::Verdict;
+use refusals::Refusal;
 use std::alloc::{AllocError, Global};
+use std::fmt;
+use std::fmt::Display;
 
-pub fn push_opened(out: &mut Vec<u8>) -> Result<(), AllocError>
-    ensures { OnOk result (out.new.items ≡ out.old.items ++ opened_bytes) }
-{
-    out.extend_from_slice(b"(opened)")
+// What is answered where an algebra was opened, a relation declared or an algebra decided.
+#[derive(Clone, Copy)]
+pub enum Report {
+    Opened,
+    Declared,
+    Decided(Verdict),
 }
 
-pub fn push_declared(out: &mut Vec<u8>) -> Result<(), AllocError>
-    ensures { OnOk result (out.new.items ≡ out.old.items ++ declared_bytes) }
-{
-    out.extend_from_slice(b"(declared)")
-}
+// An algebra that is not decided is no answer.
+impl Display for Report {
+    ghost output = { λ r. Some (report_bytes r) };
 
-// Each number in decimal, behind a space.
-fn push_numbers(heap: Global, out: &mut Vec<u8>, numbers: &[u64]) -> Result<(), AllocError>
-    ensures { OnOk result (out.new.items ≡ out.old.items ++ numbers_bytes numbers.now) }
-{
-    for number in numbers {
-        let n = *number;
-        let text = format!(in heap; " {n}")?;
-        out.extend_from_slice(text.as_bytes())?;
-    }
-    Ok(())
-}
-
-pub fn push_verdict(heap: Global, out: &mut Vec<u8>, verdict: &Verdict) -> Result<(), AllocError>
-    ensures { OnOk result (out.new.items ≡ out.old.items ++ verdict_bytes verdict.now) }
-{
-    match verdict {
-        Verdict::Undecided => Ok(()),
-        Verdict::Sound => out.extend_from_slice(b"(sound)"),
-        Verdict::Degenerate(i, j, k) => {
-            out.extend_from_slice(b"(degenerate")?;
-            push_numbers(heap, out, &[*i, *j, *k])?;
-            out.extend_from_slice(b")")?;
-            Ok(())
+    fn fmt<W: fmt::Write>(&self, f: &mut fmt::Formatter<W>) -> fmt::Result {
+        match self {
+            Report::Opened => write!(f, "(opened)"),
+            Report::Declared => write!(f, "(declared)"),
+            Report::Decided(Verdict::Undecided) => Ok(()),
+            Report::Decided(Verdict::Sound) => write!(f, "(sound)"),
+            Report::Decided(Verdict::Degenerate(i, j, k)) => write!(f, "(degenerate {i} {j} {k})"),
         }
     }
 }
 
+// What is answered where the line of this number is refused.
+#[derive(Clone, Copy)]
+pub struct RefusedLine {
+    pub number: u64,
+    pub fault: ScriptFault,
+}
+
 // Number, layer, the line, the places, the triple.
-pub fn push_refused(
+impl Display for RefusedLine {
+    ghost output = { λ r. Some (refused_bytes r.number r.fault) };
+
+    fn fmt<W: fmt::Write>(&self, f: &mut fmt::Formatter<W>) -> fmt::Result {
+        let line = self.number;
+        let r = Refusal::from(self.fault);
+        let (number, layer, step, a, b, e) = (r.number, r.layer, r.step, r.a, r.b, r.e);
+        let (i, j, k) = self.fault.triple().unwrap_or((0, 0, 0));
+        write!(
+            f,
+            "(refused {number} {layer} {line} {step} {a} {b} {e} {i} {j} {k})"
+        )
+    }
+}
+
+// Appends what a value prints.
+pub fn push_printed<T: Display>(
     heap: Global,
     out: &mut Vec<u8>,
-    fault: &ScriptFault,
-    line: u64,
+    value: &T,
 ) -> Result<(), AllocError>
-    ensures { OnOk result (out.new.items ≡ out.old.items ++ refused_bytes line fault.now) }
+    ensures { OnOk result (IfSome (T.output value.now) (λ text. out.new.items ≡ out.old.items ++ text)) }
 {
-    let r = fault.refusal();
-    let (i, j, k) = fault.triple();
-    out.extend_from_slice(b"(refused")?;
-    push_numbers(heap, out, &[r.number as u64, r.layer as u64, line])?;
-    push_numbers(heap, out, &[r.step, r.a, r.b, r.e])?;
-    push_numbers(heap, out, &[i, j, k])?;
-    out.extend_from_slice(b")")?;
-    Ok(())
+    let text = value.to_string(heap)?;
+    out.extend_from_slice(text.as_bytes())
 }

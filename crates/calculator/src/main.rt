@@ -1,147 +1,126 @@
 // The calculator. It declares relations, decides whether they agree, normalises and multiplies; it shows relations that do not agree being refused.
 #![tactic(auto)]
 
-mod refused;
 mod session;
 mod text;
 
+use algebra::closed::Closed;
+use answers::failure::Failure;
+use answers::fault::ScriptFault;
 use coefficients::ring::Ring;
 use integers::integers::Integers;
 use orders::degree::Degree;
 use orders::order::{Lex, MonomialOrder};
 use orders::weight::Weight;
 use qpolynomials::qpolynomials::QPolynomials;
-use refused::Refused;
 use relations::count::Count;
 use relations::open::Open;
 use residues::residues::Residues;
-use session::{decided, declare_factor, declare_tail, normal_form_text, product_text};
+use session::{declare, normal_form, product, tell};
 use std::io;
-
-fn show_refusal(rt: &HostRuntime, refused: &Refused) -> io::Result<()> {
-    match refused.refusal() {
-        Some(r) => {
-            let (number, layer, step, a, b, e) = (r.number, r.layer, r.step, r.a, r.b, r.e);
-            println!(rt; "refused {number}, layer {layer}, step {step}, a {a}, b {b}, e {e}")
-        }
-        None => println!(rt; "no memory"),
-    }
-}
-
-// Decides an algebra and multiplies two words in it.
-fn show_product<R: Ring + Drop, O: MonomialOrder + Drop>(
-    rt: &HostRuntime,
-    open: Open<R, O>,
-    first: &[u64],
-    second: &[u64],
-) -> io::Result<()> {
-    match decided(rt.alloc(), open) {
-        Ok((algebra, verdict)) => {
-            println!(rt; "{verdict}")?;
-            match product_text(rt.alloc(), &algebra, first, second) {
-                Ok(line) => println!(rt; "{line}"),
-                Err(e) => show_refusal(rt, &e),
-            }
-        }
-        Err(e) => show_refusal(rt, &e),
-    }
-}
-
-// Decides an algebra and normalises a word in it.
-fn show_normal_form<R: Ring + Drop, O: MonomialOrder + Drop>(
-    rt: &HostRuntime,
-    open: Open<R, O>,
-    letters: &[u64],
-) -> io::Result<()> {
-    match decided(rt.alloc(), open) {
-        Ok((algebra, verdict)) => {
-            println!(rt; "{verdict}")?;
-            match normal_form_text(rt.alloc(), &algebra, letters) {
-                Ok(line) => println!(rt; "{line}"),
-                Err(e) => show_refusal(rt, &e),
-            }
-        }
-        Err(e) => show_refusal(rt, &e),
-    }
-}
+use std::io::Write;
+use text::FailureText;
 
 // U(sl2), x1, x2 and x3 for e, f and h; the tail of x2 x1 is `minus` times x3, that of x3 x2 `last` times x2.
 fn sl2<R: Ring + Drop, O: MonomialOrder + Drop>(
-    count: Count,
     ring: R,
     order: O,
     minus: &[u8],
     last: &[u8],
-) -> Result<Open<R, O>, Refused> {
-    let mut open = Open::new(count, ring, order);
-    declare_tail(&mut open, 2, 1, minus, &[3])?;
-    declare_tail(&mut open, 3, 1, b"2", &[1])?;
-    declare_tail(&mut open, 3, 2, last, &[2])?;
+) -> Result<Open<R, O>, ScriptFault> {
+    let mut open = Open::new(Count::new(3)?, ring, order);
+    declare(&mut open, 2, 1, b"1", Some((minus, &[3])))?;
+    declare(&mut open, 3, 1, b"1", Some((b"2", &[1])))?;
+    declare(&mut open, 3, 2, b"1", Some((last, &[2])))?;
     Ok(open)
 }
 
-fn show_sl2<R: Ring + Drop, O: MonomialOrder + Drop>(
-    rt: &HostRuntime,
-    ring: R,
-    order: O,
-    minus: &[u8],
-    last: &[u8],
-) -> io::Result<()> {
-    let Ok(three) = Count::new(3) else {
-        return Ok(());
-    };
-    match sl2(three, ring, order, minus, last) {
-        Ok(open) => show_product(rt, open, &[2, 2], &[1, 1]),
-        Err(e) => show_refusal(rt, &e),
-    }
-}
-
 // x2 x1 = x1 x2 and a term with coefficient one.
-fn show_pair<R: Ring + Drop, O: MonomialOrder + Drop>(
-    rt: &HostRuntime,
+fn pair<R: Ring + Drop, O: MonomialOrder + Drop>(
     ring: R,
     order: O,
     letters: &[u64],
-) -> io::Result<()> {
-    let Ok(two) = Count::new(2) else {
-        return Ok(());
-    };
-    let mut open = Open::new(two, ring, order);
-    match declare_tail(&mut open, 2, 1, b"1", letters) {
-        Ok(_) => show_normal_form(rt, open, &[2, 2, 1, 1]),
-        Err(e) => show_refusal(rt, &e),
-    }
+) -> Result<Open<R, O>, ScriptFault> {
+    let mut open = Open::new(Count::new(2)?, ring, order);
+    declare(&mut open, 2, 1, b"1", Some((b"1", letters)))?;
+    Ok(open)
 }
 
 // x2 x1 = q x1 x2.
-fn show_plane(rt: &HostRuntime) -> io::Result<()> {
-    let Ok(two) = Count::new(2) else {
-        return Ok(());
-    };
-    let mut open = Open::new(two, QPolynomials, Lex);
-    match declare_factor(&mut open, 2, 1, b"10") {
-        Ok(_) => show_product(rt, open, &[2, 2], &[1, 1]),
-        Err(e) => show_refusal(rt, &e),
+fn plane() -> Result<Open<QPolynomials, Lex>, ScriptFault> {
+    let mut open = Open::new(Count::new(2)?, QPolynomials, Lex);
+    declare(&mut open, 2, 1, b"10", None)?;
+    Ok(open)
+}
+
+// The order by length.
+fn by_length() -> Result<Degree, ScriptFault> {
+    Ok(Degree::new([Weight::new(1)?; 8]))
+}
+
+fn sl2_modulo_7() -> Result<Open<Residues, Degree>, ScriptFault> {
+    sl2(Residues::new(7)?, by_length()?, b"6", b"5")
+}
+
+// Prints a title, the verdict on an algebra and what a calculation in it comes to, or why it came to nothing.
+fn show<R, O, F>(
+    rt: &HostRuntime,
+    title: &str,
+    open: Result<Open<R, O>, ScriptFault>,
+    calculate: F,
+) -> io::Result<()>
+where
+    R: Ring + Drop,
+    O: MonomialOrder + Drop,
+    F: FnOnce(&Closed<R, O>) -> Result<Vec<u8>, Failure> + Drop,
+    requires { F.IsAlwaysCallable calculate }
+{
+    println!(rt; "{title}")?;
+    let mut told = Vec::new(rt.alloc());
+    let ended = tell(rt.alloc(), open, calculate, &mut told);
+    rt.stdout().write_all(told.as_slice())?;
+    match ended {
+        Ok(()) => Ok(()),
+        Err(failure) => rt.println(FailureText(failure)),
     }
 }
 
 fn main(rt: HostRuntime) -> io::Result<()> {
-    let Ok(one) = Weight::new(1) else {
-        return Ok(());
-    };
-    let degree = Degree::new([one; 8]);
-    println!(rt; "Weyl algebra over the integers")?;
-    show_pair(&rt, Integers, degree, &[])?;
-    println!(rt; "quantum plane over q-polynomials")?;
-    show_plane(&rt)?;
-    println!(rt; "U(sl2) over the integers")?;
-    show_sl2(&rt, Integers, degree, b"-1", b"-2")?;
-    if let Ok(ring) = Residues::new(7) {
-        println!(rt; "U(sl2) over residues modulo 7")?;
-        show_sl2(&rt, ring, degree, b"6", b"5")?;
-    }
-    println!(rt; "U(sl2) with half of a tail")?;
-    show_sl2(&rt, Integers, degree, b"-1", b"-1")?;
-    println!(rt; "a tail that does not come before x1 x2")?;
-    show_pair(&rt, Integers, degree, &[2, 2, 2])
+    let heap = rt.alloc();
+    show(
+        &rt,
+        "Weyl algebra over the integers",
+        by_length().and_then(|order| pair(Integers, order, &[])),
+        |algebra| normal_form(heap, algebra, &[2, 2, 1, 1]),
+    )?;
+    show(
+        &rt,
+        "quantum plane over q-polynomials",
+        plane(),
+        |algebra| product(heap, algebra, &[2, 2], &[1, 1]),
+    )?;
+    show(
+        &rt,
+        "U(sl2) over the integers",
+        by_length().and_then(|order| sl2(Integers, order, b"-1", b"-2")),
+        |algebra| product(heap, algebra, &[2, 2], &[1, 1]),
+    )?;
+    show(
+        &rt,
+        "U(sl2) over residues modulo 7",
+        sl2_modulo_7(),
+        |algebra| product(heap, algebra, &[2, 2], &[1, 1]),
+    )?;
+    show(
+        &rt,
+        "U(sl2) with half of a tail",
+        by_length().and_then(|order| sl2(Integers, order, b"-1", b"-1")),
+        |algebra| product(heap, algebra, &[2, 2], &[1, 1]),
+    )?;
+    show(
+        &rt,
+        "a tail that does not come before x1 x2",
+        by_length().and_then(|order| pair(Integers, order, &[2, 2, 2])),
+        |algebra| normal_form(heap, algebra, &[2, 2, 1, 1]),
+    )
 }

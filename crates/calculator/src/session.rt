@@ -1,9 +1,10 @@
-// Steps of a session with an algebra, from its declarations to a product in it.
-use crate::refused::Refused;
-use crate::text::{list_text, term};
+// Steps of a session with an algebra, from its declarations to a calculation in it.
+use crate::text::{VerdictText, calculation_line, term};
 use algebra::close::close;
 use algebra::closed::Closed;
-use algebra::verdict::Verdict;
+use answers::failure::Failure;
+use answers::fault::ScriptFault;
+use answers::text::push_printed;
 use coefficients::ring::Ring;
 use orders::order::MonomialOrder;
 use relations::open::Open;
@@ -12,77 +13,73 @@ use words::term::Term;
 
 const PLACES: usize = 64;
 
-// x_j x_i = factor x_i x_j.
-pub fn declare_factor<R: Ring, O: MonomialOrder>(
+// x_j x_i = factor x_i x_j, and a term more if there is one: its coefficient and its letters.
+pub fn declare<R: Ring, O: MonomialOrder>(
     open: &mut Open<R, O>,
     j: u64,
     i: u64,
     factor: &[u8],
-) -> Result<(), Refused> {
-    let code = open.ring().read(factor)?;
-    open.declare(j, i, code, &[])?;
+    tail: Option<(&[u8], &[u64])>,
+) -> Result<(), ScriptFault> {
+    let ring = open.ring();
+    let code = ring.read(factor)?;
+    let last = tail
+        .map(|(coefficient, letters)| term(ring, coefficient, letters))
+        .transpose()?;
+    open.declare(j, i, code, last.as_slice())?;
     Ok(())
 }
 
-// x_j x_i = x_i x_j and one term more.
-pub fn declare_tail<R: Ring, O: MonomialOrder>(
-    open: &mut Open<R, O>,
-    j: u64,
-    i: u64,
-    coefficient: &[u8],
-    letters: &[u64],
-) -> Result<(), Refused> {
-    let one = open.ring().one();
-    let tail = [term(open.ring(), coefficient, letters)?];
-    open.declare(j, i, one, &tail)?;
-    Ok(())
-}
-
-// Closes the algebra and decides it.
-pub fn decided<R: Ring + Drop, O: MonomialOrder + Drop>(
-    heap: Global,
-    open: Open<R, O>,
-) -> Result<(Closed<R, O>, String), Refused> {
-    let mut closed = close(open);
-    let mut work = [Term::blank(); PLACES];
-    let mut out = [Term::blank(); PLACES];
-    let text = match closed.decide(&mut work, &mut out)? {
-        Verdict::Undecided => String::from_str(heap, "undecided")?,
-        Verdict::Sound => String::from_str(heap, "sound")?,
-        Verdict::Degenerate(i, j, k) => format!(in heap; "degenerate {i} {j} {k}")?,
-    };
-    Ok((closed, text))
-}
-
-// The normal form of a word, and how many steps it took.
-pub fn normal_form_text<R: Ring, O: MonomialOrder>(
+// The normal form of a word.
+pub fn normal_form<R: Ring, O: MonomialOrder>(
     heap: Global,
     algebra: &Closed<R, O>,
     letters: &[u64],
-) -> Result<String, Refused> {
+) -> Result<Vec<u8>, Failure> {
     let f = [term(algebra.ring(), b"1", letters)?];
     let mut work = [Term::blank(); PLACES];
     let mut out = [Term::blank(); PLACES];
     let (n, steps) = algebra.normalise(&f, &mut work, &mut out)?;
-    let f_text = list_text(heap, algebra.ring(), &f, 1)?;
-    let text = list_text(heap, algebra.ring(), &out, n)?;
-    Ok(format!(in heap; "{f_text} = {text} in {steps} steps")?)
+    let line = calculation_line(heap, algebra.ring(), &f, &out[..n], steps)?;
+    Ok(line)
 }
 
-// The product of two words, and how many steps it took.
-pub fn product_text<R: Ring, O: MonomialOrder>(
+// The product of two words.
+pub fn product<R: Ring, O: MonomialOrder>(
     heap: Global,
     algebra: &Closed<R, O>,
     first: &[u64],
     second: &[u64],
-) -> Result<String, Refused> {
-    let f = [term(algebra.ring(), b"1", first)?];
-    let g = [term(algebra.ring(), b"1", second)?];
+) -> Result<Vec<u8>, Failure> {
+    let f = term(algebra.ring(), b"1", first)?;
+    let g = term(algebra.ring(), b"1", second)?;
     let mut work = [Term::blank(); PLACES];
     let mut out = [Term::blank(); PLACES];
-    let (n, steps) = algebra.product(&f, &g, &mut work, &mut out)?;
-    let f_text = list_text(heap, algebra.ring(), &f, 1)?;
-    let g_text = list_text(heap, algebra.ring(), &g, 1)?;
-    let text = list_text(heap, algebra.ring(), &out, n)?;
-    Ok(format!(in heap; "{f_text} {g_text} = {text} in {steps} steps")?)
+    let (n, steps) = algebra.product(&[f], &[g], &mut work, &mut out)?;
+    let line = calculation_line(heap, algebra.ring(), &[f, g], &out[..n], steps)?;
+    Ok(line)
+}
+
+// Closes an algebra, decides it and calculates in it; appends the verdict and the line of the calculation.
+pub fn tell<R, O, F>(
+    heap: Global,
+    open: Result<Open<R, O>, ScriptFault>,
+    calculate: F,
+    told: &mut Vec<u8>,
+) -> Result<(), Failure>
+where
+    R: Ring + Drop,
+    O: MonomialOrder + Drop,
+    F: FnOnce(&Closed<R, O>) -> Result<Vec<u8>, Failure> + Drop,
+    requires { F.IsAlwaysCallable calculate }
+{
+    let mut algebra = close(open?);
+    let mut work = [Term::blank(); PLACES];
+    let mut out = [Term::blank(); PLACES];
+    let verdict = algebra.decide(&mut work, &mut out)?;
+    push_printed(heap, told, &VerdictText(verdict))?;
+    told.push(b'\n')?;
+    let line = calculate(&algebra)?;
+    told.extend_from_slice(line.as_slice())?;
+    Ok(())
 }

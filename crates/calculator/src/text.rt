@@ -1,59 +1,75 @@
-// Terms from text, and lists of terms as text.
-use crate::refused::Refused;
+// Terms from text, and what is printed.
+use algebra::verdict::Verdict;
+use answers::failure::Failure;
+use answers::fault::ScriptFault;
+use answers::list::push_list;
+use answers::text::push_printed;
 use coefficients::ring::Ring;
 use std::alloc::{AllocError, Global};
+use std::fmt;
 use words::term::Term;
 use words::word::Word;
 
-// The word of these letters.
-fn word(letters: &[u64]) -> Result<Word, Refused> {
+// The term with these letters whose coefficient is written so.
+pub fn term<R: Ring>(ring: &R, coefficient: &[u8], letters: &[u64]) -> Result<Term, ScriptFault> {
+    let code = ring.read(coefficient)?;
     let mut word = Word::empty();
     for letter in letters {
         word.push(*letter)?;
     }
-    Ok(word)
-}
-
-// The term with these letters whose coefficient is written so.
-pub fn term<R: Ring>(ring: &R, coefficient: &[u8], letters: &[u64]) -> Result<Term, Refused> {
-    let code = ring.read(coefficient)?;
-    let row = word(letters)?.row();
+    let row = word.row();
     Ok(Term { row, code })
 }
 
-// The letters, each as x and its number.
-fn word_text(heap: Global, word: &Word) -> Result<String, AllocError> {
-    let mut text = String::new(heap);
-    for letter in word.row().iter().take(word.len()) {
-        text.push_str(format!(in heap; " x{letter}")?.as_str())?;
-    }
-    Ok(text)
-}
-
-// The coefficient, then the letters.
-fn term_text<R: Ring>(heap: Global, ring: &R, term: &Term) -> Result<String, Refused> {
-    let mut bytes = [0; 80];
-    let n = ring.write(term.code, &mut bytes)?;
-    let mut text = String::new(heap);
-    for b in bytes.iter().take(n) {
-        text.push(*b as char)?;
-    }
-    text.push_str(word_text(heap, &Word::from_row(term.row)?)?.as_str())?;
-    Ok(text)
-}
-
-// The first n terms, in brackets.
-pub fn list_text<R: Ring>(
+// The operands of a calculation, its terms, and how many steps it took.
+pub fn calculation_line<R: Ring>(
     heap: Global,
     ring: &R,
+    operands: &[Term],
     terms: &[Term],
-    n: usize,
-) -> Result<String, Refused> {
-    let mut text = String::from_str(heap, "(list")?;
-    for term in terms.iter().take(n) {
-        let one = term_text(heap, ring, term)?;
-        text.push_str(format!(in heap; " ({one})")?.as_str())?;
+    steps: u64,
+) -> Result<Vec<u8>, AllocError> {
+    let mut line = Vec::new(heap);
+    for operand in operands {
+        push_list(heap, &mut line, ring, &[*operand])?;
+        line.push(b' ')?;
     }
-    text.push_str(")")?;
-    Ok(text)
+    line.extend_from_slice(b"= ")?;
+    push_list(heap, &mut line, ring, terms)?;
+    line.extend_from_slice(format!(in heap; " in {steps} steps\n")?.as_bytes())?;
+    Ok(line)
+}
+
+// A verdict as it is printed.
+#[derive(Clone, Copy)]
+pub struct VerdictText(pub Verdict);
+
+impl fmt::Display for VerdictText {
+    fn fmt<W: fmt::Write>(&self, f: &mut fmt::Formatter<W>) -> fmt::Result {
+        match self.0 {
+            Verdict::Undecided => write!(f, "undecided"),
+            Verdict::Sound => write!(f, "sound"),
+            Verdict::Degenerate(i, j, k) => write!(f, "degenerate {i} {j} {k}"),
+        }
+    }
+}
+
+// Why something was not calculated, as it is printed.
+#[derive(Clone, Copy)]
+pub struct FailureText(pub Failure);
+
+impl fmt::Display for FailureText {
+    fn fmt<W: fmt::Write>(&self, f: &mut fmt::Formatter<W>) -> fmt::Result {
+        match self.0 {
+            Failure::Refused(fault) => {
+                let r = fault.refusal();
+                let (number, layer, step, a, b, e) = (r.number, r.layer, r.step, r.a, r.b, r.e);
+                write!(
+                    f,
+                    "refused {number}, layer {layer}, step {step}, a {a}, b {b}, e {e}"
+                )
+            }
+            Failure::Memory(_) => write!(f, "no memory"),
+        }
+    }
 }

@@ -70,5 +70,5 @@ module _ (m : Coding) (ps : List Piece) (r : Result (Unit {0}) ScriptFault) (ans
   pub expression_read : (e : Expr) → map shown ps ≡ postfix e → r ≡ all_read m (expr_coefficients e)
   expression_read e h = answer ∙ ap (λ l. all_read m (coefficients_of l)) h ∙ ap (all_read m) (postfix_coefficients e)
 
-  pub terms-read : (ts : List TermForm) → map shown ps ≡ term_pieces ts → r ≡ all_read m (map (λ (t : TermForm). t.coefficient) ts)
-  terms-read ts h = answer ∙ ap (λ l. all_read m (coefficients_of l)) h ∙ ap (all_read m) (term_coefficients ts)
+  pub terms_read : (ts : List TermForm) → map shown ps ≡ term_pieces ts → r ≡ all_read m (map (λ (t : TermForm). t.coefficient) ts)
+  terms_read ts h = answer ∙ ap (λ l. all_read m (coefficients_of l)) h ∙ ap (all_read m) (term_coefficients ts)

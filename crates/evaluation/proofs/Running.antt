@@ -2,6 +2,8 @@
 use Rattle.std.proofs.Common.{◌≡◌, ℕ, ◌+◌, ◌<◌, ◌≤◌, List, [], ◌∷◌, ◌++◌, map, length, get_or, drop, Ok, Err, Result, sym, refl, ap, ◌∙◌, arith}
 use native.Mathlib.Nat.{le-max_left, le-max_right}
 use Rattle.std.proofs.lemmas.List.{at_drop_more, at_drop_all}
+use Rattle.coefficients.specs.Coding.{Coding}
+use Rattle.orders.specs.Models.{OrderModel}
 use Rattle.words.specs.declared.term.Term.{Term}
 use Rattle.grammar.specs.declared.piece.Operator.{Operator}
 use Rattle.grammar.specs.declared.piece.Piece.{Piece}
@@ -9,7 +11,9 @@ use Rattle.grammar.specs.Expressions.{Expr, generator, coefficient, apply, Opera
 use Rattle.grammar.specs.Pieces.{Shown, a_generator, a_coefficient, a_join, shown, postfix, postfix_all}
 use Rattle.answers.specs.declared.fault.ScriptFault.{ScriptFault}
 use Rattle.evaluation.specs.Coefficients.{and_then}
-use Rattle.evaluation.specs.Working.{Setting, generator_value, coefficient_value, joined, worked_out, worked_out_all}
+use Rattle.evaluation.specs.Working.{Setting, setting, generator_value, coefficient_value, joined, worked_out, worked_out_all}
+use Rattle.evaluation.specs.declared.workbench.Workbench.{Workbench}
+use Rattle.evaluation.specs.Workbenches.{place, Same}
 use Rattle.grammar.specs.Grammar.{depth, depth_all}
 use Rattle.evaluation.specs.Machine.{Stack, pushed, step, run, only, machine}
 use Rattle.evaluation.proofs.Answering.{then_assoc, then_same, then_ok}
@@ -24,9 +28,9 @@ module _ (s : Setting) (cap : ℕ) where
   unfolding run
   run_more ps i d st h = at_drop_more (λ l. run s cap (map shown l) st) ps i d h
 
-  pub run-all : (ps : List Piece) (i : ℕ) (st : Stack) → length ps ≤ i → run_rest (drop i ps) st ≡ Ok st
+  pub run_all : (ps : List Piece) (i : ℕ) (st : Stack) → length ps ≤ i → run_rest (drop i ps) st ≡ Ok st
   unfolding run
-  run-all ps i st h = at_drop_all (λ l. run s cap (map shown l) st) ps i h
+  run_all ps i st h = at_drop_all (λ l. run s cap (map shown l) st) ps i h
 
   -- pieces and then others
   pub run-append : (ps qs : List Shown) (st : Stack) → run s cap (ps ++ qs) st ≡ and_then (run s cap ps st) (λ t. run s cap qs t)
@@ -79,25 +83,23 @@ module _ (s : Setting) (cap : ℕ) where
   expression_worked e h =
       ap (λ r. and_then r only) (expression_runs e [] (omega arith)) ∙ then_assoc (worked_out s e) (λ v. Ok (v ∷ [])) only ∙ then_ok (worked_out s e)
 
-  pub value-worked : (ps : List Shown) (r : Result (List Term) ScriptFault) → r ≡ machine s cap ps → (e : Expr) → ps ≡ postfix e → depth e < cap → r ≡ worked_out s e
-  value-worked ps r answer e is h = answer ∙ ap (machine s cap) is ∙ expression_worked e h
+  pub value_worked : (ps : List Shown) (r : Result (List Term) ScriptFault) → r ≡ machine s cap ps → (e : Expr) → ps ≡ postfix e → depth e < cap → r ≡ worked_out s e
+  value_worked ps r answer e is h = answer ∙ ap (machine s cap) is ∙ expression_worked e h
 
--- one turn of the loop; the memories keep their sizes
-module _ (at : ℕ → Setting) (w w' cap cap' : ℕ) (ps : List Piece) (i : ℕ) (d : Piece) (st : Stack) (same-work : w' ≡ w) (same-stack : cap' ≡ cap) (within : i < length ps) where
-  here : Result Stack ScriptFault
-  here = step (at w') cap' (shown (get_or ps i d)) st
+  -- one turn of the loop: what a step left is run on, and its fault is the run's
+  pub run_on : (ps : List Piece) (i : ℕ) (d : Piece) (st t : Stack) → i < length ps → step s cap (shown (get_or ps i d)) st ≡ Ok t → run_rest (drop (i + 1) ps) t ≡ run_rest (drop i ps) st
+  run_on ps i d st t within done = sym (run_more ps i d st within ∙ ap (λ r. and_then r (λ u. run_rest (drop (i + 1) ps) u)) done)
 
-  turn : run_rest (at w) cap (drop i ps) st ≡ and_then here (λ t. run_rest (at w) cap (drop (i + 1) ps) t)
-  unfolding here
-  turn =
-      run_more (at w) cap ps i d st within
-      ∙ ap (λ r. and_then r (λ t. run_rest (at w) cap (drop (i + 1) ps) t))
-      (ap (λ k. step (at k) cap (shown (get_or ps i d)) st) (sym same-work) ∙ ap (λ k. step (at w') k (shown (get_or ps i d)) st) (sym same-stack))
+  pub run_stop : (ps : List Piece) (i : ℕ) (d : Piece) (st : Stack) (x : ScriptFault) → i < length ps → step s cap (shown (get_or ps i d)) st ≡ Err x → run_rest (drop i ps) st ≡ Err x
+  run_stop ps i d st x within refused = run_more ps i d st within ∙ ap (λ r. and_then r (λ u. run_rest (drop (i + 1) ps) u)) refused
 
-  pub run_on : (t : Stack) → step (at w') cap' (shown (get_or ps i d)) st ≡ Ok t → run_rest (at w) cap (drop (i + 1) ps) t ≡ run_rest (at w) cap (drop i ps) st
-  unfolding here
-  run_on t done = sym (turn ∙ ap (λ r. and_then r (λ u. run_rest (at w) cap (drop (i + 1) ps) u)) done)
+-- the same on a workbench, of which a call leaves the place where it calculates as it was
+module _ {R O : Type 0} {kr : _} {ko : _} (rings : R → Coding) (orders : O → OrderModel) where
+  abbrev pub rest_at : Workbench R O kr ko → ℕ → List Piece → Stack → Result Stack ScriptFault
+  rest_at b cap ps st = run_rest (place rings orders b) cap ps st
 
-  pub run_stop : (x : ScriptFault) → step (at w') cap' (shown (get_or ps i d)) st ≡ Err x → run_rest (at w) cap (drop i ps) st ≡ Err x
-  unfolding here
-  run_stop x refused = turn ∙ ap (λ r. and_then r (λ u. run_rest (at w) cap (drop (i + 1) ps) u)) refused
+  pub rest_same : (b b' : Workbench R O kr ko) (cap cap' : ℕ) (ps : List Piece) (st : Stack) → Same b b' → cap' ≡ cap → rest_at b' cap' ps st ≡ rest_at b cap ps st
+  rest_same b b' cap cap' ps st same room =
+      ap (λ a. run_rest (setting rings orders (length b'.work.now) a) cap' ps st) same.algebra
+      ∙ ap (λ n. run_rest (setting rings orders n b.algebra.now) cap' ps st) same.work
+      ∙ ap (λ k. rest_at b k ps st) room

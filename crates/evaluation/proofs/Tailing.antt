@@ -9,8 +9,8 @@ use Rattle.grammar.specs.declared.piece.Piece.{Piece}
 use Rattle.grammar.specs.Forms.{TermForm, term_pieces}
 use Rattle.grammar.specs.Pieces.{Shown, a_generator, a_coefficient, shown}
 use Rattle.answers.specs.declared.fault.ScriptFault.{ScriptFault}
-use Rattle.evaluation.specs.declared.tail.fault.TailFault.{TailFault}
-use Rattle.evaluation.specs.declared.tail.fault.TailFault.TheVariants.{Refused, Memory}
+use Rattle.answers.specs.declared.failure.Failure.{Failure}
+use Rattle.answers.specs.declared.failure.Failure.TheVariants.{Refused, Memory}
 use Rattle.evaluation.specs.Coefficients.{and_then, by_ring}
 use Rattle.evaluation.specs.Working.{by_word, term_of}
 use Rattle.evaluation.specs.Tails.{grown_by, made_term, made_terms, Draft, all_terms, taken, all_taken, tail_of, Made, Grown}
@@ -38,9 +38,9 @@ module _ (m : Coding) where
   pub take_on : (d e : Draft) (ps : List Piece) (i : ℕ) (p : Piece) → i < length ps → taken m d (shown (get_or ps i p)) ≡ Ok e → rest_taken e (drop (i + 1) ps) ≡ rest_taken d (drop i ps)
   take_on d e ps i p h done = sym (take_more d ps i p h ∙ ap (λ r. and_then r (λ f. rest_taken f (drop (i + 1) ps))) done)
 
-  pub take_stop : (d e : Draft) (ps : List Piece) (i : ℕ) (p : Piece) (x : TailFault) → i < length ps → Grown (taken m d (shown (get_or ps i p))) e (Err x) → Made (rest_taken d (drop i ps)) (Err x)
+  pub take_stop : (d e : Draft) (ps : List Piece) (i : ℕ) (p : Piece) (x : Failure) → i < length ps → Grown (taken m d (shown (get_or ps i p))) e (Err x) → Made (rest_taken d (drop i ps)) (Err x)
   take_stop d e ps i p (Refused f) h refused = take_more d ps i p h ∙ ap (λ r. and_then r (λ g. rest_taken g (drop (i + 1) ps))) refused
-  take_stop d e ps i p Memory h refused = tt
+  take_stop d e ps i p (Memory a) h refused = tt
 
   -- the generators of a term, then more pieces
   letters-taken : (done : List Term) (c : ℕ) (w xs : List ℕ) (ps : List Shown)
@@ -83,14 +83,14 @@ module _ (m : Coding) where
       ∙ one_by_one t ts (λ us. Ok (done ++ (term_of w c ∷ us)))
 
   -- the pieces of terms make these terms
-  pub tail-made : (ts : List TermForm) → tail_of m (term_pieces ts) ≡ made_terms m ts
-  tail-made [] = refl
-  tail-made (t ∷ ts) =
+  pub tail_made : (ts : List TermForm) → tail_of m (term_pieces ts) ≡ made_terms m ts
+  tail_made [] = refl
+  tail_made (t ∷ ts) =
       then_same (by_ring (m.read t.coefficient)) (λ c. all_taken m (record { done = []; code = c; word = [] }) (map a_generator t.generators ++ term_pieces ts))
       (λ c. and_then (grown_by [] t.generators) (λ v. and_then (made_terms m ts) (λ us. Ok (term_of v c ∷ us))))
       (λ c. letters-taken [] c [] t.generators (term_pieces ts)
       ∙ then_same (grown_by [] t.generators) (λ v. all_taken m (record { done = []; code = c; word = v }) (term_pieces ts)) (λ v. and_then (made_terms m ts) (λ us. Ok (term_of v c ∷ us))) (λ v. terms-taken ts [] c v))
       ∙ one_by_one t ts (λ us. Ok us) ∙ then_ok (made_terms m (t ∷ ts))
 
-pub made_at : {want want' : Result (List Term) ScriptFault} (r : Result (Vec Term Global) TailFault) → want ≡ want' → Made want r → Made want' r
+pub made_at : {want want' : Result (List Term) ScriptFault} (r : Result (Vec Term Global) Failure) → want ≡ want' → Made want r → Made want' r
 made_at r e h = subst (λ w. Made w r) e h

@@ -1,5 +1,5 @@
 -- Pieces worked out one after another with a stack of values, the last value first.
-use Rattle.std.specs.Prelude.{◌≡◌, ℕ, ◌≤◌, cond, List, [], ◌∷◌, map, reverse, length, take, Ok, Err, Result, nat_lt}
+use Rattle.std.specs.Prelude.{◌≡◌, ℕ, cond, List, [], ◌∷◌, map, reverse, length, take, Ok, Err, Result, nat_lt}
 use Rattle.words.specs.declared.term.Term.{Term}
 use Rattle.grammar.specs.declared.fault.FormFault.TheVariants.{TooDeep, Unreadable}
 use Rattle.grammar.specs.Pieces.{Shown, a_generator, a_coefficient, a_join}
@@ -42,7 +42,12 @@ machine s cap ps = and_then (run s cap ps []) only
 unfoldable pub held : ℕ → List Frame → Stack
 held n frames = reverse (map frame_terms (take n frames))
 
--- the stack after a step, in the first frames
-abbrev pub Left : Result Stack ScriptFault → List Frame → Result ℕ ScriptFault → Type 0
-Left want frames (Ok n) = (n ≤ length frames) × (want ≡ Ok (held n frames))
-Left want frames (Err e) = want ≡ Err e
+-- how many values a stack has room for, and which it has
+pub record Values : Type 0 where
+  pub room : ℕ
+  pub values : Stack
+
+-- the values of a stack after a step, or the fault
+abbrev pub Left : Result Stack ScriptFault → Stack → Result (Unit {0}) ScriptFault → Type 0
+Left want after (Ok u) = want ≡ Ok after
+Left want after (Err e) = want ≡ Err e

@@ -9,8 +9,8 @@ use Rattle.grammar.specs.Forms.{TermForm}
 use Rattle.grammar.specs.Pieces.{Shown, a_generator, a_coefficient, a_join}
 use Rattle.answers.specs.declared.fault.ScriptFault.{ScriptFault}
 use Rattle.answers.specs.declared.fault.ScriptFault.TheVariants.{Form}
-use Rattle.evaluation.specs.declared.tail.fault.TailFault.{TailFault}
-use Rattle.evaluation.specs.declared.tail.fault.TailFault.TheVariants.{Refused, Memory}
+use Rattle.answers.specs.declared.failure.Failure.{Failure}
+use Rattle.answers.specs.declared.failure.Failure.TheVariants.{Refused, Memory}
 use Rattle.evaluation.specs.Coefficients.{and_then, by_ring}
 use Rattle.evaluation.specs.Working.{by_word, term_of}
 
@@ -54,13 +54,13 @@ tail_of m (a_coefficient a ∷ ps) = and_then (by_ring (m.read a)) (λ c. all_ta
 tail_of m (a_join o ∷ ps) = Err (Form Unreadable)
 
 -- the terms, or why the line is refused; where memory runs out nothing is said
-abbrev pub Made : Result (List Term) ScriptFault → Result (Vec Term Global) TailFault → Type 0
+abbrev pub Made : Result (List Term) ScriptFault → Result (Vec Term Global) Failure → Type 0
 Made want (Ok v) = want ≡ Ok (vec_items v)
 Made want (Err (Refused e)) = want ≡ Err e
-Made want (Err Memory) = Unit {0}
+Made want (Err (Memory a)) = Unit {0}
 
 -- and likewise of a draft that has taken a piece
-abbrev pub Grown : Result Draft ScriptFault → Draft → Result (Unit {0}) TailFault → Type 0
+abbrev pub Grown : Result Draft ScriptFault → Draft → Result (Unit {0}) Failure → Type 0
 Grown want d (Ok u) = want ≡ Ok d
 Grown want d (Err (Refused e)) = want ≡ Err e
-Grown want d (Err Memory) = Unit {0}
+Grown want d (Err (Memory a)) = Unit {0}

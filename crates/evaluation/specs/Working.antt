@@ -45,9 +45,10 @@ pub record Setting : Type 1 where
   pub verdict : Verdict
 
 -- a closed algebra with this many places of work memory; a result has at most 64 terms
-abbrev pub setting : {R O : Type 0} → (R → Coding) → (O → OrderModel) → ℕ → Closed R O → Setting
+abbrev pub setting : {R O : Type 0} {kr : _} {ko : _} → (R → Coding) → (O → OrderModel) → ℕ → Closed R O kr ko → Setting
 setting rings orders places a =
-    record { coding = rings a.ring; order = orders a.order; memory = record { work = places; result = 64 }; count = a.count.n; table = a.table; verdict = a.verdict }
+    let rules = a.presentation.rules in
+    record { coding = rings rules.ring; order = orders rules.order; memory = record { work = places; result = 64 }; count = a.presentation.count.n; table = rules.table; verdict = a.verdict }
 
 unfoldable pub normal_form : Setting → List Term → Result (List Term) ScriptFault
 normal_form s ts = by_algebra (call.normalise s.coding s.order s.memory s.count s.table s.verdict ts)

@@ -4,5 +4,6 @@
 pub mod check;
 pub mod evaluate;
 pub mod frame;
+mod stack;
 pub mod tail;
-mod value;
+mod workbench;

@@ -18,14 +18,12 @@ use Rattle.evaluation.specs.Tails.{made_terms}
 use Rattle.session.specs.State.{State, declaring}
 use Rattle.session.specs.Turns.{wrapped, declaration}
 use Rattle.session.specs.Results.{first_read, Comes}
-use Rattle.session.specs.Failures.{failure_of}
-use Rattle.session.specs.declared.state.Stage.TheVariants as stage
-use Rattle.session.specs.State.{state_of}
+use Rattle.session.specs.State.{open_state}
 use Rattle.relations.specs.declared.open.Open.{Open}
 use Rattle.relations.specs.Presentations.{Declares}
 use Rattle.evaluation.specs.Tails.{Made}
-use Rattle.evaluation.specs.declared.tail.fault.TailFault.{TailFault}
-use Rattle.evaluation.specs.declared.tail.fault.TailFault.TheVariants.{Refused, Memory}
+use Rattle.answers.specs.declared.failure.Failure.{Failure}
+use Rattle.answers.specs.declared.failure.Failure.TheVariants.{Refused, Memory}
 
 module _ {A B C E : Type 0} (x : Result A ScriptFault) (y : Result (Unit {0}) ScriptFault) (z : Result B ScriptFault) (w : E → ScriptFault) (g : A → B → Result (Unit {0}) E) (h : A → B → C) where
   -- the factor's code, where all coefficients are read
@@ -98,17 +96,14 @@ module _ (k : AnyRing) (o : AnyOrder) (n : ℕ) (table : List Relation) (pairs :
   pub is_declared : (a : ℕ) (tail : List Term) → Ok a ≡ read_first → tails ≡ Ok tail → Ok tt ≡ answer a tail → declaration k o n table pairs j i c ts ≡ Ok (after a tail)
   is_declared a tail p q r = declares Declare answer after factor others tails a tail p q r
 
-  pub tail_fails : (a : ℕ) (f : TailFault) (s : State) → Ok a ≡ read_first → Made tails (Err f) → Comes (declaration k o n table pairs j i c ts) s s (Err (failure_of f))
+  pub tail_fails : (a : ℕ) (f : Failure) (s : State) → Ok a ≡ read_first → Made tails (Err f) → Comes (declaration k o n table pairs j i c ts) s s (Err f)
   tail_fails a (Refused e) s p q = (not_made a e p q, refl)
-  tail_fails a Memory s p q = tt
+  tail_fails a (Memory m) s p q = tt
 
--- what an open algebra stands for
-pub same_state : (a b : Open AnyRing AnyOrder) → a.ring ≡ b.ring → a.order ≡ b.order → a.presentation.count ≡ b.presentation.count
-    → a.presentation.table ≡ b.presentation.table → a.presentation.declared ≡ b.presentation.declared → state_of (stage.Open a) ≡ state_of (stage.Open b)
-same_state a b p q r s t = λ u. declaring (p u) (q u) (r u).n (s u) (t u)
-
-pub next_state : (a b : Open AnyRing AnyOrder) (j i c : ℕ) (tail : List Term) → b.ring ≡ a.ring → b.order ≡ a.order → b.presentation.count ≡ a.presentation.count
-    → b.presentation.table ≡ declared_table a.presentation.table j i c tail
-    → Declares j i c tail a.presentation.table a.presentation.declared b.presentation.table b.presentation.declared
-    → declaring a.ring a.order a.presentation.count.n (declared_table a.presentation.table j i c tail) (with_pair a.presentation.declared j i) ≡ state_of (stage.Open b)
+-- what an open algebra stands for after a declaration
+pub next_state : {kr : _} {ko : _} (a b : Open AnyRing AnyOrder kr ko) (j i c : ℕ) (tail : List Term) → b.presentation.rules.ring ≡ a.presentation.rules.ring
+    → b.presentation.rules.order ≡ a.presentation.rules.order → b.presentation.count ≡ a.presentation.count
+    → b.presentation.rules.table ≡ declared_table a.presentation.rules.table j i c tail
+    → Declares j i c tail a.presentation.rules.table a.declared b.presentation.rules.table b.declared
+    → declaring a.presentation.rules.ring a.presentation.rules.order a.presentation.count.n (declared_table a.presentation.rules.table j i c tail) (with_pair a.declared j i) ≡ open_state b
 next_state a b j i c tail p q r t d = λ u. declaring (sym p u) (sym q u) (sym r u).n (sym t u) (sym d.declared_is u)

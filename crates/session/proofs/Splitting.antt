@@ -1,6 +1,7 @@
 -- The lines of an input, one after another.
-use Rattle.std.proofs.Common.{◌≡◌, ℕ, suc, ◌+◌, ◌<◌, ◌≤◌, Bool, true, false, cond, eqb, leb, List, [], ◌∷◌, ◌++◌, length, take, drop, sym, refl, ap, ◌∙◌, add-one, one-add, arith}
-use Rattle.std.proofs.lemmas.List.{append_assoc, append-nil}
+use Rattle.std.proofs.Common.{◌≡◌, ℕ, suc, ◌+◌, ◌<◌, ◌≤◌, min, ◌≢◌, Bool, true, false, cond, eqb, leb, List, [], ◌∷◌, ◌++◌, length, take, drop, sym, refl, ap, ◌∙◌, add-one, one-add, arith}
+use Rattle.std.proofs.Math.Seq.{drop-nil}
+use Rattle.std.proofs.lemmas.List.{append_assoc, append-nil, drop-drop}
 use Rattle.std.proofs.lemmas.Bool.Decides.{nat_tests}
 use Rattle.answers.specs.Answers.{answer_bytes, refused}
 use Rattle.answers.specs.declared.fault.ScriptFault.TheVariants.{Form}
@@ -21,25 +22,62 @@ lines_first b (x ∷ bs) = go (eqb b 10) (lines_first x bs)
     go true h = refl
     go false h = rw (one-add (line_length (x ∷ bs))) (ap (put_first b) h)
 
--- one line more is answered
-pub one_more : (rest out out' : List ℕ) (n k : ℕ) (s s' : State) → 0 < length rest → n ≡ line_length rest
-    → out' ≡ out ++ (answer_bytes k (line_turn s (take n rest)).answer ++ (10 ∷ [])) → s' ≡ (line_turn s (take n rest)).after
-    → out' ++ answers (k + 1) s' (lines (drop (n + 1) rest)) ≡ out ++ answers k s (lines rest)
-unfolding answers
-one_more [] out out' n k s s' h e o t = absurd (omega arith)
-one_more (b ∷ bs) out out' n k s s' h e o t =
-    let f : lines (b ∷ bs) ≡ take n (b ∷ bs) ∷ lines (drop (n + 1) (b ∷ bs)) = lines_first b bs ∙ ap (λ i. take i (b ∷ bs) ∷ lines (drop (suc i) (b ∷ bs))) (sym e) ∙ ap (λ i. take n (b ∷ bs) ∷ lines (drop i (b ∷ bs))) (sym (add-one n)) in
-    let now : List ℕ = answer_bytes k (line_turn s (take n (b ∷ bs))).answer ++ (10 ∷ []) in
-    let more : State → List ℕ = λ u. answers (k + 1) u (lines (drop (n + 1) (b ∷ bs))) in
-    ap (λ x. x ++ more s') o
-    ∙ ap (λ u. (out ++ now) ++ more u) t
-    ∙ append_assoc out now (more (line_turn s (take n (b ∷ bs))).after)
-    ∙ sym (ap (λ ls. out ++ answers k s ls) f)
+-- the first line and what follows it
+pub next_line : (bs front back : List ℕ) (n k : ℕ) → 0 < length bs → n ≡ line_length bs → front ≡ take n bs → back ≡ drop n bs → k ≡ min (length back) 1 → lines bs ≡ front ∷ lines (drop k back)
+next_line [] front back n k h e f b m = absurd (omega arith)
+next_line (c ∷ bs) front back n k h e f b m =
+    let all = c ∷ bs in
+    lines_first c bs
+    ∙ ap (λ i. take i all ∷ lines (drop (suc i) all)) (sym e)
+    ∙ ap (λ i. take n all ∷ lines (drop i all)) (sym (add-one n))
+    ∙ ap (λ l. take n all ∷ lines l) (sym (drop-drop 1 n all) ∙ ap (drop 1) (sym b) ∙ sym (drop_one back k m))
+    ∙ ap (λ l. l ∷ lines (drop k back)) (sym f)
+  where
+    drop_one : (l : List ℕ) (i : ℕ) → i ≡ min (length l) 1 → drop i l ≡ drop 1 l
+    drop_one [] i p = drop-nil i
+    drop_one (x ∷ l) i p = let one : i ≡ 1 = omega arith in ap (λ j. drop j (x ∷ l)) one
 
-pub none_left : (rest out : List ℕ) (k : ℕ) (s : State) → length rest ≡ 0 → out ++ answers k s (lines rest) ≡ out
-unfolding answers lines
-none_left [] out k s e = append-nil out
-none_left (b ∷ bs) out k s e = absurd (omega arith)
+pub no_lines : (bs : List ℕ) → length bs ≡ 0 → lines bs ≡ []
+unfolding lines
+no_lines [] h = refl
+no_lines (b ∷ bs) h = absurd (omega arith)
+
+-- there are no more lines than bytes
+pub length-lines : (bs : List ℕ) → length (lines bs) ≤ length bs
+unfolding lines
+length-lines [] = omega arith
+length-lines (b ∷ bs) = go (eqb b 10) (length-lines bs)
+  where
+    put : (ls : List (List ℕ)) → length (put_first b ls) ≤ length ls + 1
+    put [] = omega arith
+    put (l ∷ ls) = omega arith
+
+    go : (t : Bool) → length (lines bs) ≤ length bs → length (cond t ([] ∷ lines bs) (put_first b (lines bs))) ≤ length (b ∷ bs)
+    go true h = omega arith
+    go false h = omega (arith, put (lines bs))
+
+-- a line ends at the first byte 10
+pub line_length-end : (b : ℕ) (bs : List ℕ) → b ≡ 10 → line_length (b ∷ bs) ≡ 0
+line_length-end b bs h = grind (arith, nat_tests)
+
+pub line_length-more : (b : ℕ) (bs : List ℕ) → b ≢ 10 → line_length (b ∷ bs) ≡ line_length bs + 1
+line_length-more b bs h = grind (arith, nat_tests)
+
+-- one line more is answered
+pub one_more : (ls more : List (List ℕ)) (line out out' : List ℕ) (k : ℕ) (s s' : State) → ls ≡ line ∷ more
+    → out' ≡ out ++ (answer_bytes k (line_turn s line).answer ++ (10 ∷ [])) → s' ≡ (line_turn s line).after
+    → out' ++ answers (k + 1) s' more ≡ out ++ answers k s ls
+unfolding answers
+one_more ls more line out out' k s s' first o t =
+    let now : List ℕ = answer_bytes k (line_turn s line).answer ++ (10 ∷ []) in
+    ap (λ x. x ++ answers (k + 1) s' more) o
+    ∙ ap (λ u. (out ++ now) ++ answers (k + 1) u more) t
+    ∙ append_assoc out now (answers (k + 1) (line_turn s line).after more)
+    ∙ sym (ap (λ l. out ++ answers k s l) first)
+
+pub none_left : (ls : List (List ℕ)) (out : List ℕ) (k : ℕ) (s : State) → ls ≡ [] → out ++ answers k s ls ≡ out
+unfolding answers
+none_left ls out k s e = ap (λ l. out ++ answers k s l) e ∙ append-nil out
 
 -- by its length, an input is refused whole or answered line by line
 pub too_long : (input : List ℕ) → 65536 < length input → transcript input ≡ answer_bytes 0 (refused (Form TooLong)) ++ (10 ∷ [])

@@ -1,4 +1,3 @@
-pub mod Failures
 pub mod Fits
 pub mod State
 pub mod Turns

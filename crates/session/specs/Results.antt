@@ -7,17 +7,16 @@ use Rattle.choices.specs.declared.order.AnyOrder.{AnyOrder}
 use Rattle.answers.specs.declared.fault.ScriptFault.{ScriptFault}
 use Rattle.evaluation.specs.Coefficients.{and_then, by_ring, all_read}
 use Rattle.answers.specs.Answers.{refused}
-use Rattle.session.specs.declared.failure.Failure.{Failure}
-use Rattle.session.specs.declared.failure.Failure.TheVariants.{Refused, Memory}
-use Rattle.session.specs.declared.state.Stage.TheVariants as stage
+use Rattle.answers.specs.declared.failure.Failure.{Failure}
+use Rattle.answers.specs.declared.failure.Failure.TheVariants.{Refused, Memory}
 use Rattle.session.specs.declared.answer.Answer.{Answer}
-use Rattle.session.specs.State.{State, state_of}
+use Rattle.session.specs.State.{State, open_state}
 use Rattle.session.specs.Turns.{Turn}
 use Rattle.session.specs.Answers.{answer_of}
 
 -- an open algebra of this state, or the fault
-abbrev pub Opens : Result State ScriptFault → Result (Open AnyRing AnyOrder) ScriptFault → Type 0
-Opens want (Ok a) = want ≡ Ok (state_of (stage.Open a))
+abbrev pub Opens : {kr : _} {ko : _} → Result State ScriptFault → Result (Open AnyRing AnyOrder kr ko) ScriptFault → Type 0
+Opens want (Ok a) = want ≡ Ok (open_state a)
 Opens want (Err e) = want ≡ Err e
 
 -- the code of the factor c, where it and all others are read
@@ -28,10 +27,10 @@ first_read m c others = and_then (by_ring (m.read c)) (λ a. and_then (all_read 
 abbrev pub Comes : Result State ScriptFault → State → State → Result (Unit {0}) Failure → Type 0
 Comes want before after (Ok u) = want ≡ Ok after
 Comes want before after (Err (Refused e)) = (want ≡ Err e) × (after ≡ before)
-Comes want before after (Err Memory) = Unit {0}
+Comes want before after (Err (Memory a)) = Unit {0}
 
 -- the answer and the state after of a turn; nothing where there was no memory
 abbrev pub Turned : Turn → State → Result Answer Failure → Type 0
 Turned want after (Ok a) = (want.answer ≡ answer_of a) × (want.after ≡ after)
 Turned want after (Err (Refused e)) = (want.answer ≡ refused e) × (want.after ≡ after)
-Turned want after (Err Memory) = Unit {0}
+Turned want after (Err (Memory a)) = Unit {0}

@@ -1,5 +1,6 @@
 -- The state of a session: nothing yet, an algebra that relations are declared in, or a closed one.
 use Rattle.std.specs.Prelude.{ℕ, Bool, List}
+use Rattle.relations.specs.declared.open.Open.{Open as OpenAlgebra}
 use Rattle.run.specs.declared.relation.Relation.{Relation}
 use Rattle.algebra.specs.declared.verdict.Verdict.{Verdict}
 use Rattle.algebra.specs.declared.verdict.Verdict.TheVariants.{Undecided}
@@ -14,10 +15,13 @@ pub data State : Type 0 where
   declaring : AnyRing → AnyOrder → ℕ → List Relation → List Bool → State
   calculating : AnyRing → AnyOrder → ℕ → List Relation → Verdict → State
 
+abbrev pub open_state : {kr : _} {ko : _} → OpenAlgebra AnyRing AnyOrder kr ko → State
+open_state a = declaring a.presentation.rules.ring a.presentation.rules.order a.presentation.count.n a.presentation.rules.table a.declared
+
 abbrev pub state_of : Stage → State
 state_of Empty = start
-state_of (Open a) = declaring a.ring a.order a.presentation.count.n a.presentation.table a.presentation.declared
-state_of (Closed a) = calculating a.ring a.order a.count.n a.table a.verdict
+state_of (Open a) = open_state a
+state_of (Closed a) = calculating a.presentation.rules.ring a.presentation.rules.order a.presentation.count.n a.presentation.rules.table a.verdict
 
 -- the state that closing leaves
 abbrev pub closed_state : State → State

@@ -22,7 +22,7 @@ pub(crate) fn calculate<'a>(
     pieces: &[Piece<'a>],
     memory: &mut Memory,
 ) -> Result<Frame, ScriptFault>
-    ensures { (e : Expr) → map shown pieces.now ≡ postfix e → depth e < 16 → value_of result ≡ calculation algebra.now.ring algebra.now.order algebra.now.count.n algebra.now.table algebra.now.verdict e }
+    ensures { (e : Expr) → map shown pieces.now ≡ postfix e → depth e < 16 → value_of result ≡ calculation algebra.now.presentation.rules.ring algebra.now.presentation.rules.order algebra.now.presentation.count.n algebra.now.presentation.rules.table algebra.now.verdict e }
 {
     check_coefficients(algebra.ring(), pieces)?;
     evaluate(

@@ -3,12 +3,11 @@ ghost use Rattle.std.specs.Prelude.{◌≡◌, List, map};
 ghost use Rattle.grammar.specs.Forms.{TermForm, term_pieces};
 ghost use Rattle.grammar.specs.Pieces.{shown};
 ghost use Rattle.evaluation.specs.Coefficients.{all_read, by_ring, coefficients_of};
-ghost use Rattle.session.specs.State.{state_of};
+ghost use Rattle.session.specs.State.{open_state};
 ghost use Rattle.session.specs.Turns.{declaration};
-ghost use Rattle.session.specs.declared.state.Stage.TheVariants as stage;
 ghost use Rattle.session.specs.Results.{Comes, first_read};
 
-use crate::failure::Failure;
+use answers::failure::Failure;
 use answers::fault::ScriptFault;
 use choices::order::AnyOrder;
 use choices::ring::AnyRing;
@@ -42,7 +41,7 @@ pub(crate) fn declare<'a>(
     factor: &[u8],
     pieces: &[Piece<'a>],
 ) -> Result<(), Failure>
-    ensures { (ts : List TermForm) → map shown pieces.now ≡ term_pieces ts → Comes (declaration algebra.old.ring algebra.old.order algebra.old.presentation.count.n algebra.old.presentation.table algebra.old.presentation.declared j i factor.now ts) (state_of (stage.Open algebra.old)) (state_of (stage.Open algebra.new)) result }
+    ensures { (ts : List TermForm) → map shown pieces.now ≡ term_pieces ts → Comes (declaration algebra.old.presentation.rules.ring algebra.old.presentation.rules.order algebra.old.presentation.count.n algebra.old.presentation.rules.table algebra.old.declared j i factor.now ts) (open_state algebra.old) (open_state algebra.new) result }
 {
     let code = read_factor(algebra.ring(), factor, pieces)?;
     let tail = tail_terms(heap, algebra.ring(), pieces)?;

@@ -4,7 +4,6 @@
 pub mod answer;
 mod calculating;
 mod declaring;
-pub mod failure;
 pub mod memory;
 mod opening;
 pub mod script;

@@ -45,7 +45,7 @@ pub(crate) fn open_algebra(
 ) -> Result<Open<AnyRing, AnyOrder>, ScriptFault>
     ensures { Opens (opening n ring (order_choice order)) result }
 {
-    let count = Count::new(n)?;
+    let count = Count::try_from(n)?;
     let chosen = chosen_ring(ring)?;
     let by = chosen_order(order)?;
     Ok(Open::new(count, chosen, by))

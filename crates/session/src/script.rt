@@ -1,39 +1,46 @@
 // Whole scripts: a line of answer for each line.
-ghost use Rattle.std.specs.Prelude.{◌≡◌, ◌+◌, ◌≤◌, [], ◌∷◌, ◌++◌, length, drop, IfOk};
+ghost use Rattle.std.specs.Prelude.{◌≡◌, ◌≤◌, [], ◌∷◌, ◌++◌, length, IfOk};
+ghost use Rattle.std.specs.Iterator.{YieldsFirstRef, item_count};
 ghost use Rattle.session.specs.State.{start};
 ghost use Rattle.session.specs.Transcript.{line_length, lines, answers, transcript};
 
 use crate::memory::Memory;
 use crate::state::Session;
 use answers::fault::ScriptFault;
-use answers::text::push_refused;
+use answers::text::{RefusedLine, push_printed};
 use grammar::fault::FormFault;
 use std::alloc::{AllocError, Global};
 
 // The most bytes that an input has.
 pub const INPUT_BYTES: usize = 65536;
 
-// How many bytes come before the first byte 10.
+// How many bytes come before the first line end.
 fn line_end(s: &[u8]) -> usize
     ensures value { result ≡ line_length s.now }
     ensures bound { result ≤ length s.now }
 {
-    let mut n = 0;
-    for b in s {
-        if *b == 10 {
-            return n;
-        }
-        n += 1;
-    }
-    n
+    s.iter().position(|b| *b == b'\n').unwrap_or(s.len())
 }
 
-// What comes behind a line of n bytes.
-fn past_line(s: &[u8], n: usize) -> &[u8]
-    requires { n ≤ length s.now }
-    ensures { result.now ≡ drop (n + 1) s.now }
-{
-    if n < s.len() { &s[n + 1..] } else { &s[n..] }
+// The lines of what is left of an input.
+#[derive(Drop)]
+struct Lines<'a>(&'a [u8]);
+
+impl<'a> Iterator for Lines<'a> {
+    type Item = &'a [u8];
+
+    ghost next_gives = { YieldsFirstRef (λ s. lines s.0.now) };
+
+    ghost remaining = { item_count (λ s. lines s.0.now) };
+
+    fn next(&mut self) -> Option<&'a [u8]> {
+        if self.0.is_empty() {
+            return None;
+        }
+        let (line, rest) = self.0.split_at(line_end(self.0));
+        self.0 = &rest[rest.len().min(1)..];
+        Some(line)
+    }
 }
 
 // The answers of all lines of an input that is not too long.
@@ -44,13 +51,8 @@ fn answer_lines(heap: Global, input: &[u8]) -> Result<Vec<u8>, AllocError>
     let mut out = Vec::new(heap);
     let mut memory = Memory::blank();
     let mut session = Session::new();
-    let mut rest = input;
-    let mut number = 1u64;
-    while !rest.is_empty() {
-        let n = line_end(rest);
-        session.answer(heap, number, &rest[0..n], &mut memory, &mut out)?;
-        rest = past_line(rest, n);
-        number += 1;
+    for (i, line) in Lines(input).enumerate() {
+        session.answer(heap, i as u64 + 1, line, &mut memory, &mut out)?;
     }
     Ok(out)
 }
@@ -61,8 +63,9 @@ pub fn answer_script(heap: Global, input: &[u8]) -> Result<Vec<u8>, AllocError>
 {
     if input.len() > INPUT_BYTES {
         let mut out = Vec::new(heap);
-        push_refused(heap, &mut out, &ScriptFault::Form(FormFault::TooLong), 0)?;
-        out.push(10)?;
+        let fault = ScriptFault::Form(FormFault::TooLong);
+        push_printed(heap, &mut out, &RefusedLine { number: 0, fault })?;
+        out.push(b'\n')?;
         return Ok(out);
     }
     answer_lines(heap, input)

@@ -7,6 +7,7 @@ use words::term::Term;
 
 impl Frame {
     // No terms.
+    #[tactic(auto, unfolding(crate::specs::Frames::frame_terms))]
     pub fn blank() -> Frame
         ensures { frame_terms result ≡ [] }
     {
@@ -15,6 +16,7 @@ impl Frame {
     }
 
     // The first `count` terms of a result memory.
+    #[tactic(auto, unfolding(crate::specs::Frames::frame_terms))]
     pub(crate) fn holding(memory: &[Term; VALUE_TERMS], count: usize) -> Frame
         requires { count ≤ 64 }
         ensures { frame_terms result ≡ take count memory.now }
@@ -23,9 +25,10 @@ impl Frame {
         Frame { terms, count }
     }
 
+    #[tactic(auto, unfolding(crate::specs::Frames::frame_terms))]
     pub fn terms(&self) -> &[Term]
         ensures { result.now ≡ frame_terms self.now }
     {
-        &self.terms[0..self.count]
+        &self.terms[..self.count]
     }
 }

@@ -7,28 +7,28 @@ ghost use Rattle.session.specs.Results.{Turned};
 ghost use Rattle.session.specs.Transcript.{line_turn};
 
 use crate::answer::Answer;
-use crate::failure::Failure;
 use crate::memory::Memory;
 use crate::state::Session;
-use answers::fault::ScriptFault;
-use answers::text::push_refused;
-use grammar::piece::Piece;
-use grammar::reader::{LINE_LENGTH, read_line};
+use answers::failure::Failure;
+use answers::text::{RefusedLine, push_printed};
+use grammar::piece::Pieces;
+use grammar::reader::read_line;
 use std::alloc::{AllocError, Global};
 
 // Appends the answer of a turn. Where there was no memory, there is none for the answer either.
 fn push_turn(
     heap: Global,
     number: u64,
-    turned: &Result<Answer, Failure>,
+    turned: Result<Answer, Failure>,
     out: &mut Vec<u8>,
 ) -> Result<(), AllocError>
-    ensures { OnOk result ((t : Turn) (s : State) → Turned t s turned.now → (t.after ≡ s) × (out.new.items ≡ out.old.items ++ answer_bytes number t.answer)) }
+    ensures after { OnOk result ((t : Turn) (s : State) → Turned t s turned → t.after ≡ s) }
+    ensures bytes { OnOk result ((t : Turn) (s : State) → Turned t s turned → out.new.items ≡ out.old.items ++ answer_bytes number t.answer) }
 {
     match turned {
         Ok(answer) => answer.push(heap, out),
-        Err(Failure::Refused(fault)) => push_refused(heap, out, fault, number),
-        Err(Failure::Memory) => Err(AllocError),
+        Err(Failure::Refused(fault)) => push_printed(heap, out, &RefusedLine { number, fault }),
+        Err(Failure::Memory(e)) => Err(e),
     }
 }
 
@@ -42,11 +42,9 @@ impl Session {
     ) -> Result<Answer, Failure>
         ensures { Turned (line_turn (state_of self.old.stage) line.now) (state_of self.new.stage) result }
     {
-        let mut pieces = [Piece::Generator(0); LINE_LENGTH];
-        match read_line(line, &mut pieces) {
-            Ok(form) => self.turn(heap, form, &pieces, memory),
-            Err(fault) => Err(Failure::Refused(ScriptFault::Form(fault))),
-        }
+        let mut pieces = Pieces::new();
+        let form = read_line(line, &mut pieces)?;
+        self.turn(heap, form, memory)
     }
 
     // Answers a line: the bytes of the answer and a byte 10.
@@ -62,8 +60,8 @@ impl Session {
         ensures state { OnOk result (state_of self.new.stage ≡ (line_turn (state_of self.old.stage) line.now).after) }
     {
         let turned = self.line_turn(heap, line, memory);
-        push_turn(heap, number, &turned, out)?;
-        out.push(10)?;
+        push_turn(heap, number, turned, out)?;
+        out.push(b'\n')?;
         Ok(())
     }
 }

@@ -12,16 +12,16 @@ ghost use Rattle.session.specs.declared.state.Tag.TheVariants.{Start, Declaring,
 use crate::answer::Answer;
 use crate::calculating::calculate;
 use crate::declaring::declare;
-use crate::failure::Failure;
 use crate::memory::Memory;
 use crate::opening::open_algebra;
 use crate::state::{Session, Stage, Tag};
 use algebra::close::close;
+use answers::failure::Failure;
 use answers::fault::ScriptFault;
+use answers::text::Report;
 use grammar::forms::RingForm;
 use grammar::line::{Line, OrderForm};
 use grammar::piece::Piece;
-use grammar::reader::LINE_LENGTH;
 use std::alloc::Global;
 use std::mem;
 
@@ -44,7 +44,7 @@ impl Session {
         let algebra = open_algebra(n, ring, order)?;
         self.stage = Stage::Open(algebra);
         self.tag = Tag::Declaring;
-        Ok(Answer::Opened)
+        Ok(Answer::Reported(Report::Opened))
     }
 
     fn relate<'a>(
@@ -58,13 +58,11 @@ impl Session {
         requires { self.old.tag ≡ Declaring }
         ensures { (ts : List TermForm) → map shown pieces.now ≡ term_pieces ts → Turned (the_turn (state_of self.old.stage) (rel_form j i factor.now ts)) (state_of self.new.stage) result }
     {
-        let Stage::Open(mut algebra) = mem::replace(&mut self.stage, Stage::Empty) else {
+        let Stage::Open(algebra) = &mut self.stage else {
             return Err(OUT_OF_TURN);
         };
-        let answer = declare(heap, &mut algebra, j, i, factor, pieces);
-        self.stage = Stage::Open(algebra);
-        answer?;
-        Ok(Answer::Declared)
+        declare(heap, algebra, j, i, factor, pieces)?;
+        Ok(Answer::Reported(Report::Declared))
     }
 
     fn close_algebra(&mut self)
@@ -82,13 +80,11 @@ impl Session {
         requires { self.old.tag ≡ Calculating }
         ensures { Turned (the_turn (state_of self.old.stage) decide_form) (state_of self.new.stage) result }
     {
-        let Stage::Closed(mut algebra) = mem::replace(&mut self.stage, Stage::Empty) else {
+        let Stage::Closed(algebra) = &mut self.stage else {
             return Err(OUT_OF_TURN);
         };
-        let answer = algebra.decide(&mut memory.work, &mut memory.out);
-        self.stage = Stage::Closed(algebra);
-        let verdict = answer?;
-        Ok(Answer::Decided(verdict))
+        let verdict = algebra.decide(&mut memory.work, &mut memory.out)?;
+        Ok(Answer::Reported(Report::Decided(verdict)))
     }
 
     fn work_out<'a>(&self, pieces: &[Piece<'a>], memory: &mut Memory) -> Result<Answer, Failure>
@@ -103,27 +99,25 @@ impl Session {
     }
 
     // The state and the form together settle the answer. A refusal leaves the state as it was, but the closing before a refused decision stands.
-    pub(crate) fn turn<'a>(
+    pub(crate) fn turn<'p, 'a>(
         &mut self,
         heap: Global,
-        line: Line<'a>,
-        pieces: &[Piece<'a>; LINE_LENGTH],
+        line: Line<'p, 'a>,
         memory: &mut Memory,
     ) -> Result<Answer, Failure>
-        requires { (f : Form) × Holds line pieces.now f }
-        ensures { (f : Form) → Holds line.entry pieces.now f → nesting f < 16 → Turned (the_turn (state_of self.old.stage) f) (state_of self.new.stage) result }
+        ensures { (f : Form) → Holds line.entry f → nesting f < 16 → Turned (the_turn (state_of self.old.stage) f) (state_of self.new.stage) result }
     {
         match (self.tag, line) {
             (Tag::Start, Line::Algebra(n, ring, order)) => self.open(n, ring, order),
-            (Tag::Declaring, Line::Rel(j, i, factor, count)) => {
-                self.relate(heap, j, i, factor, &pieces[0..count])
+            (Tag::Declaring, Line::Rel(j, i, factor, tail)) => {
+                self.relate(heap, j, i, factor, tail)
             }
             (Tag::Declaring, Line::Decide) => {
                 self.close_algebra();
                 self.decide(memory)
             }
             (Tag::Calculating, Line::Decide) => self.decide(memory),
-            (Tag::Calculating, Line::Calc(count)) => self.work_out(&pieces[0..count], memory),
+            (Tag::Calculating, Line::Calc(pieces)) => self.work_out(pieces, memory),
             _ => Err(OUT_OF_TURN),
         }
     }

@@ -1,11 +1,8 @@
-use Rattle.std.proofs.Common.{Err, sym, ap, ◌∙◌, arith}
+use Rattle.std.proofs.Common.{Err, arith}
 use Rattle.std.proofs.lemmas.Result.{err_from_is_err_and}
 use Rattle.evaluation.specs.Drafts.{drafted}
-use Rattle.evaluation.proofs.Tailing.{rest_taken, take_on, take_stop, take_all, made_at}
+use Rattle.evaluation.proofs.Tailing.{take_stop, made_at}
 use Rattle.evaluation.proofs.tail.terms_from.Goals as goal
-
-pub loop-piece-init : goal.loop-piece-init
-loop-piece-init g c = ap (λ d. rest_taken (g.R.Ring.model c.args.ring.now) d c.args.pieces.now) c.new-draft.ensures
 
 pub returns-in_err-take : goal.returns-in_err-take
 returns-in_err-take g c =
@@ -13,13 +10,3 @@ returns-in_err-take g c =
     let p = err_from_is_err_and c.from_residual.result c.from_residual.ensures.1 in
     rw (p.1, p.2)
     (made_at (Err c.in_err-take.field-0.0) c.loop-piece.invariant (take_stop m (drafted c.loop-piece.draft) (drafted c.take.new.self) c.args.pieces.now c.loop-piece.piece-index _ c.in_err-take.field-0.0 (omega arith) c.in_err-take.ensures))
-
-pub loop-piece-preserved : goal.loop-piece-preserved
-loop-piece-preserved g c =
-    let m = g.R.Ring.model c.args.ring.now in
-    take_on m (drafted c.loop-piece.draft) (drafted c.take.new.self) c.args.pieces.now c.loop-piece.piece-index _ (omega arith) c.in_ok-take.ensures ∙ c.loop-piece.invariant
-
-pub returns : goal.returns
-returns g c =
-    let m = g.R.Ring.model c.args.ring.now in
-    made_at c.finish.result (sym (take_all m (drafted c.loop-piece.draft) c.args.pieces.now c.loop-piece.piece-index (omega arith)) ∙ c.loop-piece.invariant) c.finish.ensures

@@ -5,7 +5,7 @@ ghost use Rattle.evaluation.specs.Drafts.{drafted};
 ghost use Rattle.evaluation.specs.Tails.{all_terms, taken, Made, Grown};
 
 use crate::tail::draft::Draft;
-use crate::tail::fault::TailFault;
+use answers::failure::Failure;
 use answers::fault::ScriptFault;
 use coefficients::ring::Ring;
 use grammar::fault::FormFault;
@@ -27,7 +27,8 @@ impl Draft {
     }
 
     // One piece more.
-    pub(crate) fn take<R: Ring>(&mut self, ring: &R, piece: Piece) -> Result<(), TailFault>
+    #[tactic(auto, using(crate::proofs::Tailing::begun, crate::proofs::Valuing::term_is))]
+    pub(crate) fn take<R: Ring>(&mut self, ring: &R, piece: Piece) -> Result<(), Failure>
         ensures { Grown (taken (R.Ring.model ring.now) (drafted self.old) (shown piece.entry)) (drafted self.new) result }
     {
         match piece {
@@ -47,12 +48,13 @@ impl Draft {
                 self.word = Word::empty();
                 Ok(())
             }
-            Piece::Join(_) => Err(TailFault::Refused(ScriptFault::Form(FormFault::Unreadable))),
+            Piece::Join(_) => Err(Failure::Refused(ScriptFault::Form(FormFault::Unreadable))),
         }
     }
 
     // The terms, the last with them.
-    pub(crate) fn finish(self) -> Result<Vec<Term>, TailFault>
+    #[tactic(auto, using(crate::proofs::Tailing::begun, crate::proofs::Valuing::term_is))]
+    pub(crate) fn finish(self) -> Result<Vec<Term>, Failure>
         ensures { Made (Ok (all_terms (drafted self))) result }
     {
         let Draft {

@@ -12,7 +12,7 @@ made_by P Q f (Err y) h = tt
 pub returns-then-input-gt-INPUT_BYTES : goal.returns-then-input-gt-INPUT_BYTES
 returns-then-input-gt-INPUT_BYTES c =
     c.in_ok-push.ensures.items
-    ∙ ap (λ l. l ++ (10 ∷ [])) (c.in_ok-push_refused.ensures ∙ ap (λ l. l ++ answer_bytes 0 (refused (Form TooLong))) c.new-out.ensures.items)
+    ∙ ap (λ l. l ++ (10 ∷ [])) (c.in_ok-push_printed.ensures ∙ ap (λ l. l ++ answer_bytes 0 (refused (Form TooLong))) c.new-out.ensures.items)
     ∙ sym (too_long c.args.input.now c.if-input-gt-INPUT_BYTES.true)
 
 pub returns : goal.returns

@@ -1,20 +1,12 @@
-use Rattle.std.proofs.Common.{arith}
-use Rattle.std.proofs.lemmas.Bool.Decides.{nat_tests}
-use Rattle.std.proofs.lemmas.List.{at_drop_more, at_drop_all}
+use Rattle.std.proofs.Common.{◌≡◌, ◌≢◌, refl, sym, ◌∙◌, rules}
+use Rattle.std.proofs.lemmas.Iterator.{YieldsList-from_slice, IsFirst-from_position, index_from_first}
+use borrow.Author.Tests.{tests}
 use Rattle.session.specs.Transcript.{line_length}
+use Rattle.session.proofs.Splitting.{line_length-end, line_length-more}
 use Rattle.session.proofs.script.line_end.Goals as goal
 
-pub returns-then-b-eq10 : goal.returns-then-b-eq10
-returns-then-b-eq10 c =
-    let d = at_drop_more line_length c.args.s.now c.loop-b.b-index 0 (omega arith) in
-    record { value = grind (arith, nat_tests); bound = omega arith }
-
-pub loop-b-preserved : goal.loop-b-preserved
-loop-b-preserved c =
-    let d = at_drop_more line_length c.args.s.now c.loop-b.b-index 0 (omega arith) in
-    grind (arith, nat_tests)
-
-pub returns : goal.returns
-returns c =
-    let d = at_drop_all line_length c.args.s.now c.loop-b.b-index (omega arith) in
-    record { value = omega arith; bound = omega arith }
+pub returns-clause-value : goal.returns-clause-value
+returns-clause-value c =
+    let s = c.args.s.now in
+    let first = IsFirst-from_position _ _ c.position.result (λ b. b ≡ 10) (λ b. b ≢ 10) c.position.ensures.ran (YieldsList-from_slice s cc) (λ x q k. search (rules, tests)) (λ x q k. search (rules, tests)) in
+    c.unwrap_or.ensures ∙ sym (index_from_first line_length (λ b. b ≡ 10) (λ b. b ≢ 10) refl line_length-end line_length-more s c.position.result first)

@@ -6,9 +6,9 @@ use Rattle.session.specs.Turns.{turn_of}
 use Rattle.session.specs.Results.{Turned}
 use Rattle.session.proofs.state.Session.line_turn.Goals as goal
 
-pub returns-in-Ok : goal.returns-in-Ok
-returns-in-Ok c =
-    let h = c.in-Ok.ensures in
+pub returns : goal.returns
+returns c =
+    let h = c.in_ok-form.ensures in
     let fine = (forms_read c.args.line.now h.0).0 h.1 in
     let shallow : nesting h.0 < 16 = omega (arith, fine.1.1) in
     let t = c.turn.ensures h.0 h.2 shallow in
