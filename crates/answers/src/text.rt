@@ -45,8 +45,14 @@ impl Display for RefusedLine {
 
     fn fmt<W: fmt::Write>(&self, f: &mut fmt::Formatter<W>) -> fmt::Result {
         let line = self.number;
-        let r = Refusal::from(self.fault);
-        let (number, layer, step, a, b, e) = (r.number, r.layer, r.step, r.a, r.b, r.e);
+        let Refusal {
+            number,
+            layer,
+            step,
+            a,
+            b,
+            e,
+        } = Refusal::from(self.fault);
         let (i, j, k) = self.fault.triple().unwrap_or((0, 0, 0));
         write!(
             f,

@@ -4,8 +4,6 @@
 mod session;
 mod text;
 
-use algebra::closed::Closed;
-use answers::failure::Failure;
 use answers::fault::ScriptFault;
 use coefficients::ring::Ring;
 use integers::integers::Integers;
@@ -16,7 +14,7 @@ use qpolynomials::qpolynomials::QPolynomials;
 use relations::count::Count;
 use relations::open::Open;
 use residues::residues::Residues;
-use session::{declare, normal_form, product, tell};
+use session::{Calculation, declare, tell};
 use std::io;
 use std::io::Write;
 use text::FailureText;
@@ -28,7 +26,7 @@ fn sl2<R: Ring + Drop, O: MonomialOrder + Drop>(
     minus: &[u8],
     last: &[u8],
 ) -> Result<Open<R, O>, ScriptFault> {
-    let mut open = Open::new(Count::new(3)?, ring, order);
+    let mut open = Open::new(Count::try_from(3)?, ring, order);
     declare(&mut open, 2, 1, b"1", Some((minus, &[3])))?;
     declare(&mut open, 3, 1, b"1", Some((b"2", &[1])))?;
     declare(&mut open, 3, 2, b"1", Some((last, &[2])))?;
@@ -41,21 +39,33 @@ fn pair<R: Ring + Drop, O: MonomialOrder + Drop>(
     order: O,
     letters: &[u64],
 ) -> Result<Open<R, O>, ScriptFault> {
-    let mut open = Open::new(Count::new(2)?, ring, order);
+    let mut open = Open::new(Count::try_from(2)?, ring, order);
     declare(&mut open, 2, 1, b"1", Some((b"1", letters)))?;
     Ok(open)
 }
 
 // x2 x1 = q x1 x2.
 fn plane() -> Result<Open<QPolynomials, Lex>, ScriptFault> {
-    let mut open = Open::new(Count::new(2)?, QPolynomials, Lex);
+    let mut open = Open::new(Count::try_from(2)?, QPolynomials, Lex);
     declare(&mut open, 2, 1, b"10", None)?;
     Ok(open)
 }
 
 // The order by length.
 fn by_length() -> Result<Degree, ScriptFault> {
-    Ok(Degree::new([Weight::new(1)?; 8]))
+    Ok(Degree::new([Weight::try_from(1)?; 8]))
+}
+
+fn weyl() -> Result<Open<Integers, Degree>, ScriptFault> {
+    pair(Integers, by_length()?, &[])
+}
+
+fn late_tail() -> Result<Open<Integers, Degree>, ScriptFault> {
+    pair(Integers, by_length()?, &[2, 2, 2])
+}
+
+fn sl2_over_integers(last: &[u8]) -> Result<Open<Integers, Degree>, ScriptFault> {
+    sl2(Integers, by_length()?, b"-1", last)
 }
 
 fn sl2_modulo_7() -> Result<Open<Residues, Degree>, ScriptFault> {
@@ -63,21 +73,15 @@ fn sl2_modulo_7() -> Result<Open<Residues, Degree>, ScriptFault> {
 }
 
 // Prints a title, the verdict on an algebra and what a calculation in it comes to, or why it came to nothing.
-fn show<R, O, F>(
+fn show<R: Ring + Drop, O: MonomialOrder + Drop>(
     rt: &HostRuntime,
     title: &str,
     open: Result<Open<R, O>, ScriptFault>,
-    calculate: F,
-) -> io::Result<()>
-where
-    R: Ring + Drop,
-    O: MonomialOrder + Drop,
-    F: FnOnce(&Closed<R, O>) -> Result<Vec<u8>, Failure> + Drop,
-    requires { F.IsAlwaysCallable calculate }
-{
+    calculation: Calculation,
+) -> io::Result<()> {
     println!(rt; "{title}")?;
     let mut told = Vec::new(rt.alloc());
-    let ended = tell(rt.alloc(), open, calculate, &mut told);
+    let ended = tell(rt.alloc(), open, calculation, &mut told);
     rt.stdout().write_all(told.as_slice())?;
     match ended {
         Ok(()) => Ok(()),
@@ -86,41 +90,32 @@ where
 }
 
 fn main(rt: HostRuntime) -> io::Result<()> {
-    let heap = rt.alloc();
-    show(
-        &rt,
-        "Weyl algebra over the integers",
-        by_length().and_then(|order| pair(Integers, order, &[])),
-        |algebra| normal_form(heap, algebra, &[2, 2, 1, 1]),
-    )?;
-    show(
-        &rt,
-        "quantum plane over q-polynomials",
-        plane(),
-        |algebra| product(heap, algebra, &[2, 2], &[1, 1]),
-    )?;
+    let word = Calculation::NormalForm(&[2, 2, 1, 1]);
+    let squares = Calculation::Product(&[2, 2], &[1, 1]);
+    show(&rt, "Weyl algebra over the integers", weyl(), word)?;
+    show(&rt, "quantum plane over q-polynomials", plane(), squares)?;
     show(
         &rt,
         "U(sl2) over the integers",
-        by_length().and_then(|order| sl2(Integers, order, b"-1", b"-2")),
-        |algebra| product(heap, algebra, &[2, 2], &[1, 1]),
+        sl2_over_integers(b"-2"),
+        squares,
     )?;
     show(
         &rt,
         "U(sl2) over residues modulo 7",
         sl2_modulo_7(),
-        |algebra| product(heap, algebra, &[2, 2], &[1, 1]),
+        squares,
     )?;
     show(
         &rt,
         "U(sl2) with half of a tail",
-        by_length().and_then(|order| sl2(Integers, order, b"-1", b"-1")),
-        |algebra| product(heap, algebra, &[2, 2], &[1, 1]),
+        sl2_over_integers(b"-1"),
+        squares,
     )?;
     show(
         &rt,
         "a tail that does not come before x1 x2",
-        by_length().and_then(|order| pair(Integers, order, &[2, 2, 2])),
-        |algebra| normal_form(heap, algebra, &[2, 2, 1, 1]),
+        late_tail(),
+        word,
     )
 }

@@ -30,56 +30,51 @@ pub fn declare<R: Ring, O: MonomialOrder>(
     Ok(())
 }
 
-// The normal form of a word.
-pub fn normal_form<R: Ring, O: MonomialOrder>(
-    heap: Global,
-    algebra: &Closed<R, O>,
-    letters: &[u64],
-) -> Result<Vec<u8>, Failure> {
-    let f = [term(algebra.ring(), b"1", letters)?];
-    let mut work = [Term::blank(); PLACES];
-    let mut out = [Term::blank(); PLACES];
-    let (n, steps) = algebra.normalise(&f, &mut work, &mut out)?;
-    let line = calculation_line(heap, algebra.ring(), &f, &out[..n], steps)?;
-    Ok(line)
+// What is calculated with words, given by their letters.
+#[derive(Clone, Copy)]
+pub enum Calculation<'a> {
+    NormalForm(&'a [u64]),
+    Product(&'a [u64], &'a [u64]),
 }
 
-// The product of two words.
-pub fn product<R: Ring, O: MonomialOrder>(
+// The line of a calculation in an algebra.
+fn calculated<R: Ring, O: MonomialOrder>(
     heap: Global,
     algebra: &Closed<R, O>,
-    first: &[u64],
-    second: &[u64],
+    calculation: Calculation,
 ) -> Result<Vec<u8>, Failure> {
-    let f = term(algebra.ring(), b"1", first)?;
-    let g = term(algebra.ring(), b"1", second)?;
+    let ring = algebra.ring();
     let mut work = [Term::blank(); PLACES];
     let mut out = [Term::blank(); PLACES];
-    let (n, steps) = algebra.product(&[f], &[g], &mut work, &mut out)?;
-    let line = calculation_line(heap, algebra.ring(), &[f, g], &out[..n], steps)?;
-    Ok(line)
+    match calculation {
+        Calculation::NormalForm(letters) => {
+            let f = [term(ring, b"1", letters)?];
+            let (n, steps) = algebra.normalise(&f, &mut work, &mut out)?;
+            Ok(calculation_line(heap, ring, &f, &out[..n], steps)?)
+        }
+        Calculation::Product(first, second) => {
+            let f = term(ring, b"1", first)?;
+            let g = term(ring, b"1", second)?;
+            let (n, steps) = algebra.product(&[f], &[g], &mut work, &mut out)?;
+            Ok(calculation_line(heap, ring, &[f, g], &out[..n], steps)?)
+        }
+    }
 }
 
 // Closes an algebra, decides it and calculates in it; appends the verdict and the line of the calculation.
-pub fn tell<R, O, F>(
+pub fn tell<R: Ring + Drop, O: MonomialOrder + Drop>(
     heap: Global,
     open: Result<Open<R, O>, ScriptFault>,
-    calculate: F,
+    calculation: Calculation,
     told: &mut Vec<u8>,
-) -> Result<(), Failure>
-where
-    R: Ring + Drop,
-    O: MonomialOrder + Drop,
-    F: FnOnce(&Closed<R, O>) -> Result<Vec<u8>, Failure> + Drop,
-    requires { F.IsAlwaysCallable calculate }
-{
+) -> Result<(), Failure> {
     let mut algebra = close(open?);
     let mut work = [Term::blank(); PLACES];
     let mut out = [Term::blank(); PLACES];
     let verdict = algebra.decide(&mut work, &mut out)?;
     push_printed(heap, told, &VerdictText(verdict))?;
     told.push(b'\n')?;
-    let line = calculate(&algebra)?;
+    let line = calculated(heap, &algebra, calculation)?;
     told.extend_from_slice(line.as_slice())?;
     Ok(())
 }

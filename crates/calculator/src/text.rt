@@ -5,6 +5,7 @@ use answers::fault::ScriptFault;
 use answers::list::push_list;
 use answers::text::push_printed;
 use coefficients::ring::Ring;
+use refusals::Refusal;
 use std::alloc::{AllocError, Global};
 use std::fmt;
 use words::term::Term;
@@ -62,8 +63,14 @@ impl fmt::Display for FailureText {
     fn fmt<W: fmt::Write>(&self, f: &mut fmt::Formatter<W>) -> fmt::Result {
         match self.0 {
             Failure::Refused(fault) => {
-                let r = fault.refusal();
-                let (number, layer, step, a, b, e) = (r.number, r.layer, r.step, r.a, r.b, r.e);
+                let Refusal {
+                    number,
+                    layer,
+                    step,
+                    a,
+                    b,
+                    e,
+                } = Refusal::from(fault);
                 write!(
                     f,
                     "refused {number}, layer {layer}, step {step}, a {a}, b {b}, e {e}"

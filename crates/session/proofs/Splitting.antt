@@ -43,10 +43,10 @@ no_lines [] h = refl
 no_lines (b ∷ bs) h = absurd (omega arith)
 
 -- there are no more lines than bytes
-pub length-lines : (bs : List ℕ) → length (lines bs) ≤ length bs
+pub length_lines : (bs : List ℕ) → length (lines bs) ≤ length bs
 unfolding lines
-length-lines [] = omega arith
-length-lines (b ∷ bs) = go (eqb b 10) (length-lines bs)
+length_lines [] = omega arith
+length_lines (b ∷ bs) = go (eqb b 10) (length_lines bs)
   where
     put : (ls : List (List ℕ)) → length (put_first b ls) ≤ length ls + 1
     put [] = omega arith
@@ -57,11 +57,11 @@ length-lines (b ∷ bs) = go (eqb b 10) (length-lines bs)
     go false h = omega (arith, put (lines bs))
 
 -- a line ends at the first byte 10
-pub line_length-end : (b : ℕ) (bs : List ℕ) → b ≡ 10 → line_length (b ∷ bs) ≡ 0
-line_length-end b bs h = grind (arith, nat_tests)
+pub line_length_end : (b : ℕ) (bs : List ℕ) → b ≡ 10 → line_length (b ∷ bs) ≡ 0
+line_length_end b bs h = grind (arith, nat_tests)
 
-pub line_length-more : (b : ℕ) (bs : List ℕ) → b ≢ 10 → line_length (b ∷ bs) ≡ line_length bs + 1
-line_length-more b bs h = grind (arith, nat_tests)
+pub line_length_more : (b : ℕ) (bs : List ℕ) → b ≢ 10 → line_length (b ∷ bs) ≡ line_length bs + 1
+line_length_more b bs h = grind (arith, nat_tests)
 
 -- one line more is answered
 pub one_more : (ls more : List (List ℕ)) (line out out' : List ℕ) (k : ℕ) (s s' : State) → ls ≡ line ∷ more

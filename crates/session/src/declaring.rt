@@ -33,6 +33,7 @@ fn read_factor<'a, R: Ring>(
 }
 
 // x_j x_i = factor x_i x_j and the terms of the pieces. Every coefficient is read, then every word grown, then the relation declared.
+#[tactic(auto, using(crate::proofs::Links::not_read, crate::proofs::Links::not_declared, crate::proofs::Links::is_declared, crate::proofs::Links::tail_fails, crate::proofs::Links::next_state))]
 pub(crate) fn declare<'a>(
     heap: Global,
     algebra: &mut Open<AnyRing, AnyOrder>,

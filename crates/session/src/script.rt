@@ -33,6 +33,7 @@ impl<'a> Iterator for Lines<'a> {
 
     ghost remaining = { item_count (λ s. lines s.0.now) };
 
+    #[tactic(auto, using(crate::proofs::Splitting::next_line, crate::proofs::Splitting::no_lines))]
     fn next(&mut self) -> Option<&'a [u8]> {
         if self.0.is_empty() {
             return None;
@@ -44,6 +45,7 @@ impl<'a> Iterator for Lines<'a> {
 }
 
 // The answers of all lines of an input that is not too long.
+#[tactic(auto, using(crate::proofs::Splitting::one_more, crate::proofs::Splitting::none_left, crate::proofs::Splitting::length_lines))]
 fn answer_lines(heap: Global, input: &[u8]) -> Result<Vec<u8>, AllocError>
     requires { length input.now ≤ 65536 }
     ensures { IfOk result (λ t. t.items ≡ answers 1 start (lines input.now)) }
@@ -58,6 +60,7 @@ fn answer_lines(heap: Global, input: &[u8]) -> Result<Vec<u8>, AllocError>
 }
 
 // The whole output for a whole input, or want of memory.
+#[tactic(auto, using(crate::proofs::Splitting::too_long, crate::proofs::Splitting::not_too_long))]
 pub fn answer_script(heap: Global, input: &[u8]) -> Result<Vec<u8>, AllocError>
     ensures { IfOk result (λ t. t.items ≡ transcript input.now) }
 {

@@ -1,13 +1,8 @@
-use Rattle.std.proofs.Common.{◌∷◌, length, sym, ap, ◌∙◌, arith, true-eqb, false-eqb}
+use Rattle.std.proofs.Common.{◌∷◌, length, sym, ap, ◌∙◌, arith, false-eqb}
 use Rattle.std.proofs.lemmas.List.{take_rest}
 use Rattle.session.specs.Transcript.{lines}
-use Rattle.session.proofs.Splitting.{next_line, no_lines}
+use Rattle.session.proofs.Splitting.{next_line}
 use Rattle.session.proofs.script.LinesIterator.next.Goals as goal
-
-pub returns-then-is_empty-clause-steps : goal.returns-then-is_empty-clause-steps
-returns-then-is_empty-clause-steps c =
-    let none = no_lines c.args.self.now.0.now (true-eqb (length c.args.self.now.0.now) 0 c.if-is_empty.ensures) in
-    (none, none)
 
 pub returns-clause-steps : goal.returns-clause-steps
 returns-clause-steps c =
