@@ -1,4 +1,5 @@
-// Insertion into the list that goes from `start` to the end of its memory, its words falling.
+// Insertion into the list that goes from `start` to the end of its memory, its words falling. This and what it calls take the memory and the start
+// apart from the struct of both, whose facts do not hold between two writes.
 ghost use Rattle.std.specs.Prelude.{drop};
 ghost use Rattle.kept.specs.Falling.{ListFrom};
 ghost use Rattle.kept.specs.Kept.{insert as insertion};
