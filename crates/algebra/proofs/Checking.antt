@@ -13,10 +13,9 @@ use Rattle.relations.specs.Declare.{is_word, is_generator}
 use Rattle.algebra.specs.declared.fault.CallCause.{CallCause}
 use Rattle.algebra.specs.declared.fault.CallCause.TheVariants.{Generator, NotRising, Coefficient}
 use Rattle.algebra.specs.declared.fault.AlgebraFault.{AlgebraFault}
-use Rattle.algebra.specs.declared.fault.AlgebraFault.TheVariants.{Call}
 use Rattle.algebra.specs.declared.verdict.Verdict.{Verdict}
 use Rattle.algebra.specs.declared.verdict.Verdict.TheVariants.{Undecided, Sound, Degenerate}
-use Rattle.algebra.specs.Overlaps.{passed, check, check_triple}
+use Rattle.algebra.specs.Overlaps.{unplaced, passed, check, check_triple}
 use Rattle.algebra.specs.Calls.{in_first, in_second, check_term, scan, when_sound, scan_first, scan_second, first_list, second_list, checks}
 use Rattle.algebra.specs.Scans.{placed}
 
@@ -90,28 +89,30 @@ module _ (m : Coding) (n : ℕ) (v : Verdict) (c : Calculation) where
       at (Ok u) (Ok w) (Err f) = refl
       at (Ok u) (Ok w) (Ok z) = refl
 
+-- a fault that is placed in a list
+placed-at : (g : CallCause → AlgebraFault) (r : Result (Unit {0}) CallCause) (s : Result (Unit {0}) AlgebraFault) {Q : CallCause → AlgebraFault → Type 0}
+    → MatchResult r (λ x. s ≡ Ok x) (λ e. IsErrAnd s (Q e)) → ((e : CallCause) (f : AlgebraFault) → Q e f → f ≡ g e) → placed g r ≡ s
+placed-at g (Ok x) s h q = sym h
+placed-at g (Err e) (Ok x) h q = absurd h
+placed-at g (Err e) (Err f) h q = ap Err (sym (q e f h))
+
 -- the scan of a list from place p on
 module _ (at : ℕ → CallCause → AlgebraFault) (m : Coding) (n : ℕ) (ts : List Term) where
   abbrev pub scan_from : ℕ → Result (Unit {0}) AlgebraFault
   scan_from p = scan at m n (p + 1) (drop p ts) passed
 
-  -- one term more: where r comes of it, the rest follows
-  pub scan-more : (p : ℕ) (r : Result (Unit {0}) AlgebraFault) → p < length ts → r ≡ check_term (at (p + 1)) m n (get_or ts p nil_term) passed
-      → then_do r (λ _. scan_from (p + 1)) ≡ scan_from p
-  scan-more p r h e =
-      ap (λ x. then_do x (λ _. scan_from (p + 1))) e
+  -- one term more: where s is the answer r of its checks, in its list, the rest follows
+  pub scan-more : (p : ℕ) (r : Result (Unit {0}) CallCause) (s : Result (Unit {0}) AlgebraFault) {Q : CallCause → AlgebraFault → Type 0} → p < length ts
+      → placed (at (p + 1)) r ≡ check_term (at (p + 1)) m n (get_or ts p nil_term) passed
+      → MatchResult r (λ x. s ≡ Ok x) (λ e. IsErrAnd s (Q e)) → ((e : CallCause) (f : AlgebraFault) → Q e f → f ≡ at (p + 1) e)
+      → then_do s (λ _. scan_from (p + 1)) ≡ scan_from p
+  scan-more p r s h e cases q =
+      ap (λ x. then_do x (λ _. scan_from (p + 1))) (sym (placed-at (at (p + 1)) r s cases q) ∙ e)
       ∙ sym (term_through (at (p + 1)) m n (get_or ts p nil_term) (scan_from (p + 1)))
       ∙ sym (ap (λ l. scan at m n (p + 1) l passed) (drop_more ts p nil_term h))
 
   pub scan-all : (p : ℕ) → length ts ≤ p → passed ≡ scan_from p
   scan-all p h = sym (ap (λ l. scan at m n (p + 1) l passed) (drop_all p ts h))
-
--- a fault that is placed in a list
-pub placed-at : (g : CallCause → AlgebraFault) (r : Result (Unit {0}) CallCause) (s : Result (Unit {0}) AlgebraFault) {Q : CallCause → AlgebraFault → Type 0}
-    → MatchResult r (λ x. s ≡ Ok x) (λ e. IsErrAnd s (Q e)) → ((e : CallCause) (f : AlgebraFault) → Q e f → f ≡ g e) → placed g r ≡ s
-placed-at g (Ok x) s h q = sym h
-placed-at g (Err e) (Ok x) h q = absurd h
-placed-at g (Err e) (Err f) h q = ap Err (sym (q e f h))
 
 -- the checks of three generators come first, then the rest
 triple_through : {A : Type 0} (n i j k : ℕ) (r : Result A AlgebraFault) → check_triple n i j k r ≡ then_do (check_triple n i j k passed) (λ _. r)
@@ -129,8 +130,8 @@ triple_through n i j k r = at (is_generator n i) (is_generator n j) (is_generato
 -- what is done with three generators that rise
 pub triple_then : {A : Type 0} (n i j k : ℕ) (f : ℕ → ℕ → ℕ → Result A AlgebraFault) (r : Result Triple CallCause) (s : Result Triple AlgebraFault) {Q : CallCause → AlgebraFault → Type 0}
     → IfOk r (λ t. (t.i.number ≡ i) × (t.j.number ≡ j) × (t.k.number ≡ k)) → OnOk r (check_triple n i j k passed ≡ passed)
-    → IfErr r (λ e. check_triple n i j k passed ≡ Err (Call (record { cause = e; a = 0; b = 0 })))
-    → MatchResult r (λ t. s ≡ Ok t) (λ e. IsErrAnd s (Q e)) → ((e : CallCause) (x : AlgebraFault) → Q e x → x ≡ Call (record { cause = e; a = 0; b = 0 }))
+    → IfErr r (λ e. check_triple n i j k passed ≡ Err (unplaced e))
+    → MatchResult r (λ t. s ≡ Ok t) (λ e. IsErrAnd s (Q e)) → ((e : CallCause) (x : AlgebraFault) → Q e x → x ≡ unplaced e)
     → then_do s (λ t. f t.i.number t.j.number t.k.number) ≡ check_triple n i j k (f i j k)
 triple_then n i j k f (Ok t) s same passes refuses h q =
     ap (λ s. then_do s (λ t. f t.i.number t.j.number t.k.number)) h

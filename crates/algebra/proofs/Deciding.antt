@@ -1,5 +1,5 @@
 -- A decision that was answered says whether the overlaps vanish, and so whether the standard words are a basis.
-use Rattle.std.proofs.Common.{◌≡◌, ℕ, List, [], ◌∷◌, Ok, Err, Result, sym, refl, subst, inl, inr, arith}
+use Rattle.std.proofs.Common.{◌≡◌, ℕ, List, [], ◌∷◌, Ok, Err, Result, sym, refl, subst, inl, inr}
 use Rattle.theory.specs.FreeSum.{◌≈◌}
 use Rattle.theory.specs.Relations.{Relations, overlap}
 use Rattle.theory.specs.Basis.{Basis}
@@ -72,7 +72,7 @@ module _ (m : Coding) (o : OrderModel) (n : ℕ) (table : List Relation) (valid 
           here z r u (inr c) = r u c
       by_terms rest (y ∷ ys) a b h =
           subst (Said (t ∷ ts)) (ok_injective (Degenerate t.i t.j t.k) v h)
-          (record { all = λ s. absurd s; one = λ d. (t, rises, λ z. let e = b z in let w : ◌≡◌ {A = ℕ} 0 1 = cc in omega arith) })
+          (record { all = λ s. absurd s; one = λ d. (t, rises, λ z. let e = b z in cc) })
 
       at : (decide_over m o mem table ts ≡ Ok v → Said ts v) → (c : Result Outcome RunFault) → overlap_run m o mem table t.i t.j t.k ≡ c
           → after_overlap t c (decide_over m o mem table ts) ≡ Ok v → Said (t ∷ ts) v

@@ -1,5 +1,5 @@
 -- What a call has checked that was answered.
-use Rattle.std.proofs.Common.{◌≡◌, ℕ, ◌+◌, Bool, true, false, cond, List, [], ◌∷◌, Ok, Err, Result, refl, ap, arith}
+use Rattle.std.proofs.Common.{◌≡◌, ℕ, ◌+◌, Bool, true, false, cond, List, [], ◌∷◌, Ok, Err, Result, refl, ap}
 use Rattle.std.proofs.lemmas.Bool.{and_parts}
 use Rattle.theory.specs.Words.{Over}
 use Rattle.coefficients.specs.Coding.{Coding}
@@ -22,7 +22,7 @@ use Rattle.normal_forms.proofs.Loads.{ok_injective}
 use Rattle.algebra.specs.Verdicts.{IsSound}
 
 pub err_not_ok : {A E : Type 0} (e : E) (y : A) → ◌≡◌ {A = Result A E} (Err e) (Ok y) → ⊥
-err_not_ok e y h = let z : ◌≡◌ {A = ℕ} 0 1 = cc in omega arith
+err_not_ok e y h = cc
 
 -- a word in the letters 1 to n, with a code in use
 pub record Loadable (m : Coding) (n : ℕ) (t : Term) : Type 0 where

@@ -11,6 +11,7 @@ use Rattle.run.specs.Step.{Outcome}
 use Rattle.run.specs.Calls.{Memory}
 use Rattle.algebra.specs.declared.fault.AlgebraFault.TheVariants.{Run}
 use Rattle.algebra.specs.declared.fault.DecideFault.{DecideFault}
+use Rattle.algebra.specs.declared.triple.Triple.{Triple as Letters}
 use Rattle.algebra.specs.declared.verdict.Verdict.{Verdict}
 use Rattle.algebra.specs.declared.verdict.Verdict.TheVariants.{Undecided, Sound, Degenerate}
 use Rattle.relations.specs.Declare.{is_generator}
@@ -115,33 +116,41 @@ module _ (t : Triple) (rest : Result Verdict DecideFault) where
   vanishing-refused (Err e) f h = let same : record { overlap = Run e; i = t.i; j = t.j; k = t.k } ≡ f = cc in ap Err (sym same)
 
 -- where w tells whether the overlap of the next triple vanishes: it is passed over, it decides, or its refusal is the decision's
-module _ (m : Coding) (o : OrderModel) (mem : Memory) (table : List Relation) (n i j k : ℕ) (below : k < n + 1) (first : i < j) (second : j < k)
-    (w : Result Bool DecideFault) (told : w ≡ vanishing (record { i = i; j = j; k = k }) (overlap_run m o mem table i j k)) where
-  abbrev over : List Triple → Result Verdict DecideFault
-  over = decide_over m o mem table
+module _ (m : Coding) (o : OrderModel) (work result : ℕ) (table : List Relation) (n i j k : ℕ) (below : k < n + 1)
+    (t : Letters) (same : (t.i.number ≡ i) × (t.j.number ≡ j) × (t.k.number ≡ k)) (work' result' : ℕ) (wide : work' ≡ work) (long : result' ≡ result)
+    (w : Result Bool DecideFault)
+    (told : w ≡ vanishing (record { i = t.i.number; j = t.j.number; k = t.k.number }) (overlap_run m o (record { work = work'; result = result' }) table t.i.number t.j.number t.k.number))
+  where
+    abbrev over : List Triple → Result Verdict DecideFault
+    over = decide_over m o (record { work = work; result = result }) table
 
-  abbrev rest : Result Verdict DecideFault
-  rest = over (from_third n i j (k + 1))
+    abbrev rest : Result Verdict DecideFault
+    rest = over (from_third n i j (k + 1))
 
-  abbrev t : Triple
-  t = record { i = i; j = j; k = k }
+    abbrev x : Triple
+    x = record { i = i; j = j; k = k }
 
-  pub step-on : w ≡ Ok true → rest ≡ over (from_third n i j k)
-  step-on h = vanishing-on t rest (overlap_run m o mem table i j k) (sym told ∙ h) ∙ ap over (next-rises n i j k below first second)
+    abbrev run : Result Outcome RunFault
+    run = overlap_run m o (record { work = work; result = result }) table i j k
 
-  pub step-found : w ≡ Ok false → Ok (Degenerate i j k) ≡ over (from_third n i j k)
-  step-found h = vanishing-not t rest (overlap_run m o mem table i j k) (sym told ∙ h) ∙ ap over (next-rises n i j k below first second)
+    next : after_overlap x run rest ≡ over (from_third n i j k)
+    next = ap over (next-rises n i j k below (omega arith) (omega arith))
 
-  pub step-refused : (f : DecideFault) → w ≡ Err f → Err f ≡ over (from_third n i j k)
-  step-refused f h = vanishing-refused t rest (overlap_run m o mem table i j k) f (sym told ∙ h) ∙ ap over (next-rises n i j k below first second)
+    is : vanishing x run ≡ w
+    is =
+        let v = λ (a b i j k : ℕ). vanishing (record { i = i; j = j; k = k }) (overlap_run m o (record { work = a; result = b }) table i j k) in
+        let y = t.j.number in
+        let z = t.k.number in
+        sym (told ∙ ap (λ a. v a result' t.i.number y z) wide ∙ ap (λ b. v work b t.i.number y z) long ∙ ap (λ i. v work result i y z) same.0 ∙ ap (λ j. v work result i j z) same.1 ∙ ap (v work result i j) same.2)
 
--- what is told of the overlap of equal letters, in memories of equal size
-pub told-of : (m : Coding) (o : OrderModel) (table : List Relation) (w : Result Bool DecideFault) (a b a' b' i j k i' j' k' : ℕ) → a' ≡ a → b' ≡ b → (i' ≡ i) × (j' ≡ j) × (k' ≡ k)
-    → w ≡ vanishing (record { i = i'; j = j'; k = k' }) (overlap_run m o (record { work = a'; result = b' }) table i' j' k')
-    → w ≡ vanishing (record { i = i; j = j; k = k }) (overlap_run m o (record { work = a; result = b }) table i j k)
-told-of m o table w a b a' b' i j k i' j' k' e f g h =
-    let v = λ (a b i j k : ℕ). vanishing (record { i = i; j = j; k = k }) (overlap_run m o (record { work = a; result = b }) table i j k) in
-    h ∙ ap (λ x. v x b' i' j' k') e ∙ ap (λ x. v a x i' j' k') f ∙ ap (λ x. v a b x j' k') g.0 ∙ ap (λ x. v a b i x k') g.1 ∙ ap (v a b i j) g.2
+    pub step-on : w ≡ Ok true → rest ≡ over (from_third n i j k)
+    step-on h = vanishing-on x rest run (is ∙ h) ∙ next
+
+    pub step-found : w ≡ Ok false → Ok (Degenerate i j k) ≡ over (from_third n i j k)
+    step-found h = vanishing-not x rest run (is ∙ h) ∙ next
+
+    pub step-refused : (f : DecideFault) → w ≡ Err f → Err f ≡ over (from_third n i j k)
+    step-refused f h = vanishing-refused x rest run f (is ∙ h) ∙ next
 
 -- three generators that are refused do not rise
 pub not_rising : (n i j k : ℕ) (f : AlgebraFault) → (1 ≤ i) × (i < n + 1) → (1 ≤ j) × (j < n + 1) → (1 ≤ k) × (k < n + 1) → check_triple n i j k passed ≡ Err f

@@ -79,7 +79,7 @@ module _ (m : Coding) (o : OrderModel) (n : ℕ) (table : List Relation) (valid 
         let s = (h t (inl refl)).term in (
           record {
             word = refl;
-            over = over_join n (letters t.row) (i ∷ []) s.word.over (record { low = rises.low; high = omega (arith, rises.first, rises.second, rises.high) }, tt);
+            over = over_join n (letters t.row) (i ∷ []) s.word.over (record { low = rises.low; high = omega arith }, tt);
             code = own_means m n t.code s.in_use;
           },
           first_tail-stand (e + 1) ts (λ t b. h t (inr b)),
@@ -92,21 +92,17 @@ module _ (m : Coding) (o : OrderModel) (n : ℕ) (table : List Relation) (valid 
         let s = (h t (inl refl)).term in (
           record {
             word = ap (λ w. k ∷ w) (sym (append-nil (letters t.row)));
-            over = (record { low = omega (arith, rises.low, rises.first, rises.second); high = rises.high }, s.word.over);
+            over = (record { low = omega arith; high = rises.high }, s.word.over);
             code = λ c e. negative-means m t.code c s.in_use e;
           },
           second_tail-stand (e + 1) ts (λ t b. h t (inr b)),
         )
 
     letters-over : Over n (j ∷ k ∷ i ∷ []) × Over n (k ∷ i ∷ j ∷ [])
-    letters-over =
-        let a = rises.low in
-        let b = rises.first in
-        let c = rises.second in
-        let d = rises.high in (
-          (record { low = omega arith; high = omega arith }, (record { low = omega arith; high = omega arith }, (record { low = omega arith; high = omega arith }, tt))),
-          (record { low = omega arith; high = omega arith }, (record { low = omega arith; high = omega arith }, (record { low = omega arith; high = omega arith }, tt))),
-        )
+    letters-over = (
+      (record { low = omega arith; high = omega arith }, (record { low = omega arith; high = omega arith }, (record { low = omega arith; high = omega arith }, tt))),
+      (record { low = omega arith; high = omega arith }, (record { low = omega arith; high = omega arith }, (record { low = omega arith; high = omega arith }, tt))),
+    )
 
     first_half-stand : StandFor m n (first_half (relation_of table k j) i j k) (around [] (rhs P k j) (i ∷ []))
     unfolding around place

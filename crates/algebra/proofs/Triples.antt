@@ -51,17 +51,13 @@ counting_range a (suc n) k (inr m) = let h = counting_range (a + 1) n k m in (om
 pub triples_all : (n : ℕ) (t : Triple) → Rises n t → Among t (triples n)
 unfolding triples
 triples_all n t r =
-    let a = r.low in
-    let b = r.first in
-    let c = r.second in
-    let d = r.high in
     each_among (λ i. each (λ j. each (λ k. cond (ltb i j && ltb j k) (record { i = i; j = j; k = k } ∷ []) []) (range_with_len 1 n)) (range_with_len 1 n)) t t.i (range_with_len 1 n)
     (counted 1 n t.i (omega arith) (omega arith))
     (each_among (λ j. each (λ k. cond (ltb t.i j && ltb j k) (record { i = t.i; j = j; k = k } ∷ []) []) (range_with_len 1 n)) t t.j (range_with_len 1 n)
     (counted 1 n t.j (omega arith) (omega arith))
     (each_among (λ k. cond (ltb t.i t.j && ltb t.j k) (record { i = t.i; j = t.j; k = k } ∷ []) []) t t.k (range_with_len 1 n)
     (counted 1 n t.k (omega arith) (omega arith))
-    (rw (lt-ltb t.i t.j b, lt-ltb t.j t.k c) (inl refl))))
+    (rw (lt-ltb t.i t.j r.first, lt-ltb t.j t.k r.second) (inl refl))))
 
 found-rises : (n i j k : ℕ) (t : Triple) → Among i (range_with_len 1 n) → Among k (range_with_len 1 n) → Among t (cond (ltb i j && ltb j k) (record { i = i; j = j; k = k } ∷ []) []) → Rises n t
 found-rises n i j k t a c m = at (ltb i j && ltb j k) refl m

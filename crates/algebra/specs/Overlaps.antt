@@ -50,6 +50,10 @@ second_half m r i j k = record { word = k ∷ i ∷ j ∷ []; code = m.negative 
 abbrev pub overlap_entries : Coding → List Relation → ℕ → ℕ → ℕ → List Entry
 overlap_entries m table i j k = first_half (relation_of table k j) i j k ++ second_half m (relation_of table j i) i j k
 
+-- the fault of a cause at no place
+abbrev pub unplaced : CallCause → AlgebraFault
+unplaced c = Call (record { cause = c; a = 0; b = 0 })
+
 -- all checks passed
 abbrev pub passed : Result (Unit {0}) AlgebraFault
 passed = Ok tt

@@ -1,6 +1,7 @@
 // Why a call on a closed algebra is refused, and where.
 ghost use Rattle.std.specs.Prelude.{◌≡◌};
 ghost use Rattle.algebra.specs.Faults.{cause_refusal, algebra_refusal};
+ghost use Rattle.algebra.specs.Overlaps.{unplaced};
 ghost use Rattle.algebra.specs.declared.fault.AlgebraFault.TheVariants.{Call, Run};
 
 use coefficients::fault::RingFault;
@@ -53,7 +54,7 @@ impl CallCause {
 
 // At no place.
 impl From<CallCause> for AlgebraFault {
-    ghost from_gives = { λ e r. r ≡ Call (record { cause = e; a = 0; b = 0 }) };
+    ghost from_gives = { λ e r. r ≡ unplaced e };
 
     fn from(cause: CallCause) -> AlgebraFault {
         cause.at(0, 0)

@@ -1,6 +1,6 @@
 // What the overlap of three generators loads.
-ghost use Rattle.std.specs.Prelude.{◌≡◌, ℕ, ◌∷◌, length, drop};
-ghost use Rattle.kept.specs.Falling.{ListFrom};
+ghost use Rattle.std.specs.Prelude.{◌≡◌, ℕ, ◌∷◌};
+ghost use Rattle.kept.specs.Lists.{items, places};
 ghost use Rattle.run.specs.Entries.{Entry as WordEntry, row_entry, each_entry, load};
 ghost use Rattle.run.specs.Post.{Left};
 ghost use Rattle.run.specs.Relations.{relation_of, tail_of};
@@ -9,6 +9,7 @@ ghost use Rattle.algebra.specs.Overlaps.{overlap_place, first_entry, second_entr
 
 use crate::triple::Triple;
 use coefficients::ring::Ring;
+use kept::list::KeptList;
 use orders::order::MonomialOrder;
 use relations::row::row_of;
 use run::entry::Entry;
@@ -37,26 +38,22 @@ fn load_half<R: Ring, O: MonomialOrder, F: Fn(u64, &Term) -> Entry>(
     relation: &Relation,
     head: Entry,
     entry: F,
-    work: &mut [Term],
-    start: usize,
-) -> Result<usize, RunFault>
-    requires callable { F.IsAlwaysCallable entry }
-    requires list { ListFrom (O.model rules.now.order) start work.old }
-    ensures { (w : WordEntry) (f : ℕ → TermOf → WordEntry) → head ≡ row_entry w → ((p : _) (t : _) (r : _) → F.post entry p t r → r ≡ row_entry (f p t.now)) → Left (O.model rules.now.order) (load (R.model rules.now.ring) (O.model rules.now.order) (length work.old) (w ∷ each_entry f 1 (tail_of relation.now)) (drop start work.old)) start work.old work.new result }
+    list: &mut KeptList<O>,
+) -> Result<(), RunFault>
+    requires { F.IsAlwaysCallable entry }
+    ensures { (w : WordEntry) (f : ℕ → TermOf → WordEntry) → head ≡ row_entry w → ((p : _) (t : _) (r : _) → F.post entry p t r → r ≡ row_entry (f p t.now)) → Left (load (R.model rules.now.ring) (O.model list.old.order.now) (places list.old) (w ∷ each_entry f 1 (tail_of relation.now)) (items list.old)) list.old list.new result }
 {
-    let at = rules.add_entry(head, work, start)?;
-    rules.load_each(relation.tail(), entry, work, at)
+    rules.add_entry(head, list)?;
+    rules.load_each(relation.tail(), entry, list)
 }
 
 // By the relation of the pair (k, j): c x_j x_k x_i and the tail times x_i.
 fn load_first<R: Ring, O: MonomialOrder>(
     rules: &Rules<R, O>,
     triple: Triple,
-    work: &mut [Term],
-    start: usize,
-) -> Result<usize, RunFault>
-    requires { ListFrom (O.model rules.now.order) start work.old }
-    ensures { Left (O.model rules.now.order) (load (R.model rules.now.ring) (O.model rules.now.order) (length work.old) (first_half (relation_of rules.now.table triple.k.number triple.j.number) triple.i.number triple.j.number triple.k.number) (drop start work.old)) start work.old work.new result }
+    list: &mut KeptList<O>,
+) -> Result<(), RunFault>
+    ensures { Left (load (R.model rules.now.ring) (O.model list.old.order.now) (places list.old) (first_half (relation_of rules.now.table triple.k.number triple.j.number) triple.i.number triple.j.number triple.k.number) (items list.old)) list.old list.new result }
 {
     let Triple { i, j, k } = triple;
     let relation = Relation::of_pair(&rules.table, k, j);
@@ -74,18 +71,16 @@ fn load_first<R: Ring, O: MonomialOrder>(
             place: place_of(1, e),
         }
     };
-    load_half(rules, relation, head, entry, work, start)
+    load_half(rules, relation, head, entry, list)
 }
 
 // By the relation of the pair (j, i): the negatives of c x_k x_i x_j and of x_k times the tail.
 fn load_second<R: Ring, O: MonomialOrder>(
     rules: &Rules<R, O>,
     triple: Triple,
-    work: &mut [Term],
-    start: usize,
-) -> Result<usize, RunFault>
-    requires { ListFrom (O.model rules.now.order) start work.old }
-    ensures { Left (O.model rules.now.order) (load (R.model rules.now.ring) (O.model rules.now.order) (length work.old) (second_half (R.model rules.now.ring) (relation_of rules.now.table triple.j.number triple.i.number) triple.i.number triple.j.number triple.k.number) (drop start work.old)) start work.old work.new result }
+    list: &mut KeptList<O>,
+) -> Result<(), RunFault>
+    ensures { Left (load (R.model rules.now.ring) (O.model list.old.order.now) (places list.old) (second_half (R.model rules.now.ring) (relation_of rules.now.table triple.j.number triple.i.number) triple.i.number triple.j.number triple.k.number) (items list.old)) list.old list.new result }
 {
     let Triple { i, j, k } = triple;
     let relation = Relation::of_pair(&rules.table, j, i);
@@ -103,7 +98,7 @@ fn load_second<R: Ring, O: MonomialOrder>(
             place: place_of(2, e),
         }
     };
-    load_half(rules, relation, head, entry, work, start)
+    load_half(rules, relation, head, entry, list)
 }
 
 impl Source for Triple {
@@ -112,10 +107,9 @@ impl Source for Triple {
     fn load<R: Ring, O: MonomialOrder>(
         &self,
         rules: &Rules<R, O>,
-        work: &mut [Term],
-        start: usize,
-    ) -> Result<usize, RunFault> {
-        let at = load_first(rules, *self, work, start)?;
-        load_second(rules, *self, work, at)
+        list: &mut KeptList<O>,
+    ) -> Result<(), RunFault> {
+        load_first(rules, *self, list)?;
+        load_second(rules, *self, list)
     }
 }

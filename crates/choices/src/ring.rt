@@ -39,6 +39,7 @@ impl AnyRing {
     }
 }
 
+// A match in each method: what hands out the ring as a `dyn` value, or writes these methods by a macro, is not accepted here.
 impl Ring for AnyRing {
     ghost model = { λ k. ring_model k };
 

@@ -3,4 +3,5 @@ pub mod Terms
 pub mod Kept
 pub mod Falling
 pub mod Post
+pub mod Lists
 pub mod Search

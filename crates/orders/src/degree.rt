@@ -41,12 +41,12 @@ impl MonomialOrder for Degree {
     ghost model = { λ d. degree_model (weight_values d.weights) };
 
     // Equal images need no weights.
+    #[tactic(auto, using(crate::proofs::Comparing::same_weights))]
     fn compare(&self, a: &Image, b: &Image) -> Ordering {
-        if a == b {
+        let by_counts = a.first_difference(b);
+        if by_counts.is_eq() {
             return Ordering::Equal;
         }
-        self.weighted(a)
-            .cmp(&self.weighted(b))
-            .then_with(|| a.first_difference(b))
+        self.weighted(a).cmp(&self.weighted(b)).then(by_counts)
     }
 }

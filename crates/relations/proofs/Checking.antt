@@ -1,6 +1,7 @@
 -- Tests of comparisons, and the checks of a declaration one after another.
 use Rattle.std.proofs.Common.{◌≡◌, IsTrue, Bor, ℕ, ◌+◌, ◌-◌, ◌<◌, ◌≤◌, Bool, true, false, cond, not, ◌&&◌, eqb, ltb, leb, List, [], ◌∷◌, length, get_or, drop, Some, None, Ok, Err, Option, Result, sym, refl, ap, ◌∙◌, arith, length-take}
 use Rattle.std.specs.Option.{MatchOption, option_map}
+use Rattle.std.proofs.lemmas.Option.{MatchOption-at_some}
 use Rattle.std.specs.Result.{MatchResult, IsErrAnd}
 use Rattle.std.specs.Ordering.{is_lt}
 use Rattle.kept.specs.Kept.{compare_terms}
@@ -28,17 +29,13 @@ below-last o t None r h f = h
 below-last o t (Some s) r h f = f s h
 
 -- a fault that is placed at a term
-pub placed-at : (p : ℕ) (r : Result (Unit {0}) DeclareCause) (s : Result (Unit {0}) DeclareFault) {Q : DeclareCause → DeclareFault → Type 0}
+placed-at : (p : ℕ) (r : Result (Unit {0}) DeclareCause) (s : Result (Unit {0}) DeclareFault) {Q : DeclareCause → DeclareFault → Type 0}
     → MatchResult r (λ x. s ≡ Ok x) (λ e. IsErrAnd s (Q e)) → ((e : DeclareCause) (f : DeclareFault) → Q e f → f ≡ record { cause = e; term = p }) → at_term p r ≡ s
 placed-at p (Ok x) s h q = sym h
 placed-at p (Err e) (Ok x) h q = absurd h
 placed-at p (Err e) (Err f) h q = ap Err (sym (q e f h))
 
--- a check comes first, then the rest
-through : {A : Type 0} (b : Bool) (f : DeclareCause) (p : ℕ) (r : Result A DeclareFault) → check b f p r ≡ then_do (check b f p passed) (λ _. r)
-through true f p r = refl
-through false f p r = refl
-
+-- the checks of a term come first, then the rest
 term_through : {A : Type 0} (m : Coding) (o : OrderModel) (n j i : ℕ) (last : Option Term) (p : ℕ) (t : Term) (r : Result A DeclareFault)
     → check_term m o n j i last p t r ≡ then_do (check_term m o n j i last p t passed) (λ _. r)
 term_through m o n j i last p t r =
@@ -66,13 +63,17 @@ module _ (m : Coding) (o : OrderModel) (n j i : ℕ) (ts : List Term) where
   abbrev pub tail_from : ℕ → Result (Unit {0}) DeclareFault
   tail_from p = check_tail m o n j i (last_at ts p) (p + 1) (drop p ts) passed
 
-  -- one term more: where r comes of it, the rest follows
-  pub tail-more : (p : ℕ) (last : Option Term) (r : Result (Unit {0}) DeclareFault) → p < length ts → last ≡ last_at ts p
-      → r ≡ check_term m o n j i last (p + 1) (get_or ts p nil_term) passed → then_do r (λ _. tail_from (p + 1)) ≡ tail_from p
-  tail-more p last r h l e =
-      ap (λ x. then_do x (λ _. tail_from (p + 1))) (e ∙ ap (λ x. check_term m o n j i x (p + 1) (get_or ts p nil_term) passed) l)
-      ∙ ap (λ x. then_do (check_term m o n j i (last_at ts p) (p + 1) (get_or ts p nil_term) passed) (λ _. check_tail m o n j i x (p + 1 + 1) (drop (p + 1) ts) passed)) (sym (last-more ts p))
-      ∙ sym (term_through m o n j i (last_at ts p) (p + 1) (get_or ts p nil_term) (check_tail m o n j i (Some (get_or ts p nil_term)) (p + 1 + 1) (drop (p + 1) ts) passed))
+  -- one term more: where s is the answer r of its checks, at its place, the rest follows
+  pub tail-more : (p : ℕ) (last : Option Term) (r : Result (Unit {0}) DeclareCause) (s : Result (Unit {0}) DeclareFault) {Q : DeclareCause → DeclareFault → Type 0}
+      → p < length ts → last ≡ last_at ts p
+      → ((q : ℕ) → at_term q r ≡ check_term m o n j i last q (get_or ts p nil_term) passed)
+      → MatchResult r (λ x. s ≡ Ok x) (λ e. IsErrAnd s (Q e)) → ((e : DeclareCause) (f : DeclareFault) → Q e f → f ≡ record { cause = e; term = p + 1 })
+      → then_do s (λ _. tail_from (p + 1)) ≡ tail_from p
+  tail-more p last r s h l a cases q =
+      let t = get_or ts p nil_term in
+      ap (λ x. then_do x (λ _. tail_from (p + 1))) (sym (placed-at (p + 1) r s cases q) ∙ a (p + 1) ∙ ap (λ x. check_term m o n j i x (p + 1) t passed) l)
+      ∙ ap (λ x. then_do (check_term m o n j i (last_at ts p) (p + 1) t passed) (λ _. check_tail m o n j i x (p + 1 + 1) (drop (p + 1) ts) passed)) (sym (last-more ts p))
+      ∙ sym (term_through m o n j i (last_at ts p) (p + 1) t (check_tail m o n j i (Some t) (p + 1 + 1) (drop (p + 1) ts) passed))
       ∙ sym (ap (λ l. check_tail m o n j i (last_at ts p) (p + 1) l passed) (drop_more ts p nil_term h))
 
   pub tail-all : (p : ℕ) → length ts ≤ p → passed ≡ tail_from p
@@ -104,7 +105,7 @@ pair-passes m o n d j i c tail j' i' h e =
     ∙ sym (pair-first m o n d j i c tail ∙ ap (λ r. then_do r (λ _. check_relation m o n j i c tail)) h)
 
 -- the checks of a factor come first, then the size of the tail, then its terms
-pub factor-first : {A : Type 0} (m : Coding) (c : ℕ) (r : Result A DeclareFault) → check_factor m c r ≡ then_do (check_factor m c passed) (λ _. r)
+factor-first : {A : Type 0} (m : Coding) (c : ℕ) (r : Result A DeclareFault) → check_factor m c r ≡ then_do (check_factor m c passed) (λ _. r)
 factor-first m c r = at (m.used c) (not (eqb c 0))
   where
     at : (a b : Bool) → check a (Coefficient NotInUse) 0 (check b FactorZero 0 r) ≡ then_do (check a (Coefficient NotInUse) 0 (check b FactorZero 0 passed)) (λ _. r)
@@ -112,7 +113,7 @@ factor-first m c r = at (m.used c) (not (eqb c 0))
     at true false = refl
     at true true = refl
 
-pub tail-last : (m : Coding) (o : OrderModel) (n j i c : ℕ) (tail : List Term) → passed ≡ check_factor m c passed → length tail ≤ 8
+tail-last : (m : Coding) (o : OrderModel) (n j i c : ℕ) (tail : List Term) → passed ≡ check_factor m c passed → length tail ≤ 8
     → check_tail m o n j i None 1 tail passed ≡ check_relation m o n j i c tail
 tail-last m o n j i c tail h k =
     let rest = check_tail m o n j i None 1 tail passed in
@@ -121,10 +122,13 @@ tail-last m o n j i c tail h k =
     ∙ ap (λ r. then_do r (λ _. check (leb (length tail) 8) TailSize 0 rest)) (sym h)
     ∙ ap (λ b. check b TailSize 0 rest) (le-leb (length tail) 8 k))
 
--- a relation has a tail of at most eight terms
-pub tail-fits : (r : Relation) (tail : List Term) → tail_of r ≡ tail → length tail ≤ 8
+-- a relation that was made has a tail of at most eight terms, so where the factor passes its terms decide
+pub terms-decide : (m : Coding) (o : OrderModel) (n j i c : ℕ) (tail : List Term) (made : Option Relation) (r : Relation)
+    → MatchOption made (8 < length tail) (λ x. (x.factor ≡ c) × (tail_of x ≡ tail)) → made ≡ Some r → passed ≡ check_factor m c passed
+    → check_tail m o n j i None 1 tail passed ≡ check_relation m o n j i c tail
 unfolding tail_of
-tail-fits r tail h =
+terms-decide m o n j i c tail made r says is f =
+    let is_made = MatchOption-at_some (8 < length tail) (λ (x : Relation). (x.factor ≡ c) × (tail_of x ≡ tail)) r is says in
     let few = r.few in
-    let size = simp length-take at (ap length h) in
-    omega arith
+    let size = simp length-take at (ap length is_made.1) in
+    tail-last m o n j i c tail f (omega arith)

@@ -26,12 +26,12 @@ use Rattle.relations.specs.Presentations.{Says, Plain, Declares}
 -- a check that was passed
 check-ok : {A : Type 0} (b : Bool) (f : DeclareCause) (p : ℕ) (r : Result A DeclareFault) (x : A) → check b f p r ≡ Ok x → (b ≡ true) × (r ≡ Ok x)
 check-ok true f p r x h = (refl, h)
-check-ok false f p r x h = let z : ◌≡◌ {A = ℕ} 0 1 = cc in absurd (omega arith)
+check-ok false f p r x h = absurd cc
 
 less_is : (r : Ordering) → is_lt r ≡ true → r ≡ Less
 less_is Less h = refl
-less_is Equal h = let z : ◌≡◌ {A = ℕ} 0 1 = cc in absurd (omega arith)
-less_is Greater h = let z : ◌≡◌ {A = ℕ} 0 1 = cc in absurd (omega arith)
+less_is Equal h = absurd cc
+less_is Greater h = absurd cc
 
 pub over-letters : (n : ℕ) (row : List ℕ) → letters_to n (letters row) ≡ true → Over n (letters row)
 over-letters n [] h = tt

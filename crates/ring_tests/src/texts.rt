@@ -45,35 +45,23 @@ fn number(base: u64, text: &[u8]) -> Option<u64> {
 
 fn code(writing: Writing, text: &[u8]) -> Option<u64> {
     match writing {
-        Writing::Below(m) => match number(10, text) {
-            Some(n) if n < m => Some(n),
-            _ => None,
-        },
+        Writing::Below(m) => number(10, text).filter(|n| *n < m),
         Writing::Binary => number(2, text),
         Writing::Signed => match text {
-            [b'-', digits @ ..] => match number(10, digits) {
-                Some(n) if n > 0 => Some(n.wrapping_mul(2).wrapping_sub(1)),
-                _ => None,
-            },
-            _ => match number(10, text) {
-                Some(n) => Some(n.wrapping_mul(2)),
-                None => None,
-            },
+            [b'-', digits @ ..] => number(10, digits)
+                .filter(|n| *n > 0)
+                .map(|n| n.wrapping_mul(2).wrapping_sub(1)),
+            _ => number(10, text).map(|n| n.wrapping_mul(2)),
         },
     }
 }
 
 fn agrees<R: Ring>(rt: &impl Abort, ring: &R, writing: Writing, text: &[u8]) -> Result<(), Fail> {
-    match code(writing, text) {
-        Some(a) => {
-            assert_eq!(rt; ring.read(text), Ok(a));
-            Ok(())
-        },
-        None => {
-            assert_eq!(rt; ring.read(text), Err(RingFault::NoWriting));
-            Ok(())
-        },
-    }
+    assert_eq!(rt;
+        ring.read(text),
+        code(writing, text).ok_or(RingFault::NoWriting)
+    );
+    Ok(())
 }
 
 fn all_texts<R: Ring>(rt: &impl Abort, ring: &R, writing: Writing) -> Result<(), Fail> {

@@ -1,8 +1,7 @@
 pub mod Splice
-pub mod Falling
 pub mod Entering
 pub mod Loading
 pub mod Stepping
 pub mod Running
-pub mod Calling
 pub mod Making
+pub mod Calling

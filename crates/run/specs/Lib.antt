@@ -4,4 +4,5 @@ pub mod Entries
 pub mod Relations
 pub mod Step
 pub mod Calls
+pub mod Dones
 pub mod Post

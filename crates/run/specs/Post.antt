@@ -1,32 +1,40 @@
--- What an entry, a step and a run leave in the memories. The list of the work memory goes from `start` to its end.
-use Rattle.std.specs.Prelude.{◌≡◌, ℕ, ◌-◌, ◌≤◌, List, length, take, drop, Ok, Err, Result}
+-- What loading, a step and a run leave of the work list and of the terms that are done.
+use Rattle.std.specs.Prelude.{◌≡◌, ℕ, ◌-◌, ◌≤◌, List, [], length, take, drop, Ok, Err, Result}
 use Rattle.words.specs.declared.term.Term.{Term}
-use Rattle.orders.specs.Models.{OrderModel}
-use Rattle.kept.specs.Falling.{Falls}
+use Rattle.kept.specs.declared.list.KeptList.{KeptList}
+use Rattle.kept.specs.Lists.{items, BlankBefore, SameMemory}
 use Rattle.kept.specs.Terms.{blanks}
+use Rattle.run.specs.declared.done.Done.{Done}
 use Rattle.run.specs.declared.fault.RunFault.{RunFault}
+use Rattle.run.specs.Dones.{terms, BlankBehind, SameResult}
 use Rattle.run.specs.Step.{State, Outcome}
 
--- the list `want`, whose words fall, or its refusal; blank places before the list stay blank
-abbrev pub Left : {E : Type 0} → OrderModel → Result (List Term) E → ℕ → List Term → List Term → Result ℕ E → Type 0
-Left o want start before after (Ok s) =
-    (s ≤ length after) × (Ok (drop s after) ≡ want) × (take start before ≡ blanks start → take s after ≡ blanks s) × Falls o (drop s after)
-Left o want start before after (Err e) = want ≡ Err e
+module _ {O : Type 0} {k : _} where
+  -- the list `want`, or its refusal; blank places before the list stay blank
+  abbrev pub Left : {E : Type 0} → Result (List Term) E → KeptList O k → KeptList O k → Result (Unit {0}) E → Type 0
+  Left want before after (Ok u) = SameMemory before after × (Ok (items after) ≡ want) × (BlankBefore before → BlankBefore after)
+  Left want before after (Err e) = SameMemory before after × (want ≡ Err e)
 
--- the places before the work list are blank, and those behind the result
-abbrev pub Clean : ℕ → List Term → ℕ → List Term → Type 0
-Clean start work count out = (take start work ≡ blanks start) × (drop count out ≡ blanks (length out - count))
+  -- the state `want`, or its refusal; blank places stay blank
+  abbrev pub Stepped : Result State RunFault → KeptList O k → Done → KeptList O k → Done → Result (Unit {0}) RunFault → Type 0
+  Stepped want list done list' done' (Ok u) =
+      SameMemory list list' × SameResult done done' × (Ok (record { work = items list'; done = terms done' }) ≡ want)
+      × (BlankBefore list → BlankBefore list')
+      × (BlankBehind done → BlankBehind done')
+  Stepped want list done list' done' (Err e) = SameMemory list list' × SameResult done done' × (want ≡ Err e)
 
--- the state `want`, the words of its work list falling, or its refusal; clean memories stay clean
-abbrev pub Stepped : OrderModel → Result State RunFault → ℕ → ℕ → List Term → List Term → List Term → List Term → Result (ℕ × ℕ) RunFault → Type 0
-Stepped o want start count work out work' out' (Ok p) =
-    (p.0 ≤ length work') × (p.1 ≤ length out') × (Ok (record { work = drop p.0 work'; done = take p.1 out' }) ≡ want)
-    × (Clean start work count out → Clean p.0 work' p.1 out') × Falls o (drop p.0 work')
-Stepped o want start count work out work' out' (Err e) = want ≡ Err e
+  -- the outcome `want`, the work list empty, or its refusal; blank places stay blank
+  abbrev pub Ran : Result Outcome RunFault → KeptList O k → Done → KeptList O k → Done → Result ℕ RunFault → Type 0
+  Ran want list done list' done' (Ok n) =
+      SameMemory list list' × SameResult done done' × (Ok (record { terms = terms done'; steps = n }) ≡ want) × (items list' ≡ [])
+      × (BlankBefore list → BlankBefore list')
+      × (BlankBehind done → BlankBehind done')
+  Ran want list done list' done' (Err e) = SameMemory list list' × SameResult done done' × (want ≡ Err e)
 
--- the outcome `want`, or its refusal; of clean memories the result memory holds the terms and then blanks, and the work memory is blank
-abbrev pub Ran : Result Outcome RunFault → ℕ → List Term → List Term → List Term → List Term → Result (ℕ × ℕ) RunFault → Type 0
-Ran want start work out work' out' (Ok p) =
+-- the outcome `want`, or its refusal; of blank memories the result memory holds the terms and then blanks, and the work memory is blank
+abbrev pub Calculated : Result Outcome RunFault → List Term → List Term → List Term → List Term → Result (ℕ × ℕ) RunFault → Type 0
+Calculated want work out work' out' (Ok p) =
     (p.0 ≤ length out') × (Ok (record { terms = take p.0 out'; steps = p.1 }) ≡ want)
-    × (Clean start work 0 out → (work' ≡ blanks (length work')) × (drop p.0 out' ≡ blanks (length out' - p.0)))
-Ran want start work out work' out' (Err e) = want ≡ Err e
+    × (work ≡ blanks (length work) → work' ≡ blanks (length work'))
+    × (out ≡ blanks (length out) → drop p.0 out' ≡ blanks (length out' - p.0))
+Calculated want work out work' out' (Err e) = want ≡ Err e

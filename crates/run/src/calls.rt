@@ -5,6 +5,7 @@ use crate::fault::RunFault;
 use crate::rules::Rules;
 use crate::source::Source;
 use coefficients::ring::Ring;
+use kept::list::KeptList;
 use orders::order::MonomialOrder;
 use words::term::Term;
 
@@ -26,20 +27,19 @@ impl Source for Calculation<'_> {
     fn load<R: Ring, O: MonomialOrder>(
         &self,
         rules: &Rules<R, O>,
-        work: &mut [Term],
-        start: usize,
-    ) -> Result<usize, RunFault> {
+        list: &mut KeptList<O>,
+    ) -> Result<(), RunFault> {
         match *self {
-            Calculation::Normalise(list) => rules.load_first(list, work, start),
+            Calculation::Normalise(terms) => rules.load_first(terms, list),
             Calculation::Sum(first, second) => {
-                let at = rules.load_first(first, work, start)?;
-                rules.load_second(second, work, at)
+                rules.load_first(first, list)?;
+                rules.load_second(second, list)
             }
             Calculation::Difference(first, second) => {
-                let at = rules.load_first(first, work, start)?;
-                rules.load_negated(second, work, at)
+                rules.load_first(first, list)?;
+                rules.load_negated(second, list)
             }
-            Calculation::Product(first, second) => rules.load_products(first, second, work, start),
+            Calculation::Product(first, second) => rules.load_products(first, second, list),
         }
     }
 }

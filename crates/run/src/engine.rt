@@ -1,15 +1,18 @@
 // A calculation: its entries are loaded, and then there are steps until the work list is empty.
-ghost use Rattle.std.specs.Prelude.{◌≡◌, [], length, drop};
+ghost use Rattle.std.specs.Prelude.{◌≡◌, length};
+ghost use Rattle.kept.specs.Lists.{items, places};
 ghost use Rattle.kept.specs.Terms.{blanks};
-ghost use Rattle.kept.specs.Falling.{ListFrom};
 ghost use Rattle.run.specs.Calls.{Answered, calculate};
-ghost use Rattle.run.specs.Post.{Ran};
+ghost use Rattle.run.specs.Dones.{room, terms};
+ghost use Rattle.run.specs.Post.{Calculated, Ran};
 ghost use Rattle.run.specs.Step.{run_from};
 
+use crate::done::Done;
 use crate::fault::{Cause, Place, RunFault};
 use crate::rules::Rules;
 use crate::source::Source;
 use coefficients::ring::Ring;
+use kept::list::KeptList;
 use orders::order::MonomialOrder;
 use words::term::Term;
 
@@ -24,31 +27,27 @@ pub fn blank_all(memory: &mut [Term])
 }
 
 impl<R: Ring, O: MonomialOrder> Rules<R, O> {
-    // At most `limit` steps; answers how many terms the result has, and how many steps there were.
+    // At most `limit` steps; answers how many there were.
     fn run_steps(
         &self,
-        work: &mut [Term],
-        start: usize,
-        out: &mut [Term],
+        list: &mut KeptList<O>,
+        done: &mut Done,
         limit: u64,
-    ) -> Result<(usize, u64), RunFault>
-        requires { ListFrom (O.model self.now.order) start work.old }
-        ensures { Ran (run_from (R.model self.now.ring) (O.model self.now.order) self.now.table (length work.old) (length out.old) limit 0 (drop start work.old) []) start work.old out.old work.new out.new result }
+    ) -> Result<u64, RunFault>
+        ensures { Ran (run_from (R.model self.now.ring) (O.model list.old.order.now) self.now.table (places list.old) (room done.old) limit 0 (items list.old) (terms done.old)) list.old done.old list.new done.new result }
     {
-        let mut at = start;
-        let mut count = 0;
         let mut steps = 0;
-        while at < work.len() {
+        while let Some(t) = list.take_first() {
             if steps >= limit {
                 return Err(RunFault {
                     cause: Cause::StepLimit,
                     place: Place::at_step(steps),
                 });
             }
-            (at, count) = self.step(work, at, out, count, steps + 1)?;
             steps += 1;
+            self.step(t, steps, list, done)?;
         }
-        Ok((count, steps))
+        Ok(steps)
     }
 
     // Loads and runs; a refusal leaves both memories as they come.
@@ -58,11 +57,13 @@ impl<R: Ring, O: MonomialOrder> Rules<R, O> {
         work: &mut [Term],
         out: &mut [Term],
     ) -> Result<(usize, u64), RunFault>
-        ensures { Ran (calculate (R.model self.now.ring) (O.model self.now.order) self.now.table (record { work = length work.old; result = length out.old }) (S.entries source.now (R.model self.now.ring) self.now.table)) (length work.old) work.old out.old work.new out.new result }
+        ensures { Calculated (calculate (R.model self.now.ring) (O.model self.now.order) self.now.table (record { work = length work.old; result = length out.old }) (S.entries source.now (R.model self.now.ring) self.now.table)) work.old out.old work.new out.new result }
     {
-        let end = work.len();
-        let start = source.load(self, work, end)?;
-        self.run_steps(work, start, out, STEP_LIMIT)
+        let mut list = KeptList::new(&self.order, work);
+        source.load(self, &mut list)?;
+        let mut done = Done::new(out);
+        let steps = self.run_steps(&mut list, &mut done, STEP_LIMIT)?;
+        Ok((done.count(), steps))
     }
 
     // How many terms the result has, and how many steps it took. Both memories may hold anything and have any size. After an answer the result

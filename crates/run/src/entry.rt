@@ -1,6 +1,5 @@
 // One entry into the kept list: its length, then its code, then the insertion.
-ghost use Rattle.std.specs.Prelude.{length, drop};
-ghost use Rattle.kept.specs.Falling.{ListFrom};
+ghost use Rattle.kept.specs.Lists.{items, places};
 ghost use Rattle.run.specs.Entries.{added as addition, entered};
 ghost use Rattle.run.specs.Post.{Left};
 
@@ -8,7 +7,7 @@ use crate::fault::{Cause, Place, RunFault};
 use crate::rules::Rules;
 use coefficients::fault::RingFault;
 use coefficients::ring::Ring;
-use kept::insert::insert;
+use kept::list::KeptList;
 use orders::letter::Row;
 use orders::order::MonomialOrder;
 use words::term::Term;
@@ -22,36 +21,28 @@ pub struct Entry {
 }
 
 impl<R: Ring, O: MonomialOrder> Rules<R, O> {
-    // Inserts a row and a code, and answers where the list starts then.
+    // Inserts a row and a code.
     fn added(
         &self,
         row: Option<Row>,
         code: Result<u64, RingFault>,
-        work: &mut [Term],
-        start: usize,
-    ) -> Result<usize, Cause>
-        requires { ListFrom (O.model self.now.order) start work.old }
-        ensures { Left (O.model self.now.order) (addition (R.model self.now.ring) (O.model self.now.order) (length work.old) row code (drop start work.old)) start work.old work.new result }
+        list: &mut KeptList<O>,
+    ) -> Result<(), Cause>
+        ensures { Left (addition (R.model self.now.ring) (O.model list.old.order.now) (places list.old) row code (items list.old)) list.old list.new result }
     {
         let Some(row) = row else {
             return Err(Cause::WordTooLong);
         };
         let code = code?;
-        Ok(insert(&self.ring, &self.order, work, start, Term { row, code })?)
+        Ok(list.insert(&self.ring, Term { row, code })?)
     }
 
-    // Inserts an entry, and answers where the list starts then.
-    pub fn add_entry(
-        &self,
-        entry: Entry,
-        work: &mut [Term],
-        start: usize,
-    ) -> Result<usize, RunFault>
-        requires { ListFrom (O.model self.now.order) start work.old }
-        ensures { Left (O.model self.now.order) (entered (R.model self.now.ring) (O.model self.now.order) (length work.old) entry (drop start work.old)) start work.old work.new result }
+    // Inserts an entry.
+    pub fn add_entry(&self, entry: Entry, list: &mut KeptList<O>) -> Result<(), RunFault>
+        ensures { Left (entered (R.model self.now.ring) (O.model list.old.order.now) (places list.old) entry (items list.old)) list.old list.new result }
     {
         let Entry { row, code, place } = entry;
-        self.added(row, code, work, start)
+        self.added(row, code, list)
             .map_err(|cause| RunFault { cause, place })
     }
 }

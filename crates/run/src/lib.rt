@@ -2,6 +2,7 @@
 #![tactic(auto)]
 
 pub mod calls;
+mod done;
 pub mod engine;
 pub mod entry;
 pub mod fault;

@@ -1,6 +1,6 @@
 // Loading: the terms of a list into the kept list, one after another.
-ghost use Rattle.std.specs.Prelude.{◌≡◌, ℕ, length, drop};
-ghost use Rattle.kept.specs.Falling.{ListFrom};
+ghost use Rattle.std.specs.Prelude.{◌≡◌, ℕ};
+ghost use Rattle.kept.specs.Lists.{items, places};
 ghost use Rattle.run.specs.Calls.{first_entry, first_entries, second_entry, second_entries, negated_entry, negated_entries, joined_entry, joined_entries, product_entries};
 ghost use Rattle.run.specs.Entries.{Entry as WordEntry, row_entry, each_entry, load};
 ghost use Rattle.run.specs.Post.{Left};
@@ -11,41 +11,33 @@ use crate::fault::{Place, RunFault};
 use crate::rules::Rules;
 use crate::substitute::{clean_row, joined_row};
 use coefficients::ring::Ring;
+use kept::list::KeptList;
 use orders::order::MonomialOrder;
 use words::term::Term;
 
 impl<R: Ring, O: MonomialOrder> Rules<R, O> {
-    // What `entry` gives for each term of a list and its place, counted from 1; answers where the kept list starts then.
+    // Inserts what `entry` gives for each term and its place, counted from 1.
     pub fn load_each<F: Fn(u64, &Term) -> Entry>(
         &self,
-        list: &[Term],
+        terms: &[Term],
         entry: F,
-        work: &mut [Term],
-        start: usize,
-    ) -> Result<usize, RunFault>
-        requires callable { F.IsAlwaysCallable entry }
-        requires list { ListFrom (O.model self.now.order) start work.old }
-        ensures { (f : ℕ → TermOf → WordEntry) → ((p : _) (t : _) (r : _) → F.post entry p t r → r ≡ row_entry (f p t.now)) → Left (O.model self.now.order) (load (R.model self.now.ring) (O.model self.now.order) (length work.old) (each_entry f 1 list.now) (drop start work.old)) start work.old work.new result }
+        list: &mut KeptList<O>,
+    ) -> Result<(), RunFault>
+        requires { F.IsAlwaysCallable entry }
+        ensures { (f : ℕ → TermOf → WordEntry) → ((p : _) (t : _) (r : _) → F.post entry p t r → r ≡ row_entry (f p t.now)) → Left (load (R.model self.now.ring) (O.model list.old.order.now) (places list.old) (each_entry f 1 terms.now) (items list.old)) list.old list.new result }
     {
-        let mut at = start;
-        for (i, t) in list.iter().enumerate() {
-            at = self.add_entry(entry(i as u64 + 1, t), work, at)?;
+        for (i, t) in terms.iter().enumerate() {
+            self.add_entry(entry(i as u64 + 1, t), list)?;
         }
-        Ok(at)
+        Ok(())
     }
 
     // The first list, as it is.
-    pub(crate) fn load_first(
-        &self,
-        list: &[Term],
-        work: &mut [Term],
-        start: usize,
-    ) -> Result<usize, RunFault>
-        requires { ListFrom (O.model self.now.order) start work.old }
-        ensures { Left (O.model self.now.order) (load (R.model self.now.ring) (O.model self.now.order) (length work.old) (first_entries 1 list.now) (drop start work.old)) start work.old work.new result }
+    pub(crate) fn load_first(&self, terms: &[Term], list: &mut KeptList<O>) -> Result<(), RunFault>
+        ensures { Left (load (R.model self.now.ring) (O.model list.old.order.now) (places list.old) (first_entries 1 terms.now) (items list.old)) list.old list.new result }
     {
         self.load_each(
-            list,
+            terms,
             |p: u64, t: &Term| -> Entry
                 ensures { result ≡ row_entry (first_entry p t.now) }
             {
@@ -55,23 +47,16 @@ impl<R: Ring, O: MonomialOrder> Rules<R, O> {
                     place: Place::loading(p, 0),
                 }
             },
-            work,
-            start,
+            list,
         )
     }
 
     // The second list, as it is.
-    pub(crate) fn load_second(
-        &self,
-        list: &[Term],
-        work: &mut [Term],
-        start: usize,
-    ) -> Result<usize, RunFault>
-        requires { ListFrom (O.model self.now.order) start work.old }
-        ensures { Left (O.model self.now.order) (load (R.model self.now.ring) (O.model self.now.order) (length work.old) (second_entries 1 list.now) (drop start work.old)) start work.old work.new result }
+    pub(crate) fn load_second(&self, terms: &[Term], list: &mut KeptList<O>) -> Result<(), RunFault>
+        ensures { Left (load (R.model self.now.ring) (O.model list.old.order.now) (places list.old) (second_entries 1 terms.now) (items list.old)) list.old list.new result }
     {
         self.load_each(
-            list,
+            terms,
             |p: u64, t: &Term| -> Entry
                 ensures { result ≡ row_entry (second_entry p t.now) }
             {
@@ -81,23 +66,20 @@ impl<R: Ring, O: MonomialOrder> Rules<R, O> {
                     place: Place::loading(0, p),
                 }
             },
-            work,
-            start,
+            list,
         )
     }
 
     // The second list, with negatives.
     pub(crate) fn load_negated(
         &self,
-        list: &[Term],
-        work: &mut [Term],
-        start: usize,
-    ) -> Result<usize, RunFault>
-        requires { ListFrom (O.model self.now.order) start work.old }
-        ensures { Left (O.model self.now.order) (load (R.model self.now.ring) (O.model self.now.order) (length work.old) (negated_entries (R.model self.now.ring) 1 list.now) (drop start work.old)) start work.old work.new result }
+        terms: &[Term],
+        list: &mut KeptList<O>,
+    ) -> Result<(), RunFault>
+        ensures { Left (load (R.model self.now.ring) (O.model list.old.order.now) (places list.old) (negated_entries (R.model self.now.ring) 1 terms.now) (items list.old)) list.old list.new result }
     {
         self.load_each(
-            list,
+            terms,
             |p: u64, t: &Term| -> Entry
                 ensures { result ≡ row_entry (negated_entry (R.model self.entry.now.ring) p t.now) }
             {
@@ -107,8 +89,7 @@ impl<R: Ring, O: MonomialOrder> Rules<R, O> {
                     place: Place::loading(0, p),
                 }
             },
-            work,
-            start,
+            list,
         )
     }
 
@@ -117,15 +98,13 @@ impl<R: Ring, O: MonomialOrder> Rules<R, O> {
         &self,
         t: &Term,
         p: u64,
-        list: &[Term],
-        work: &mut [Term],
-        start: usize,
-    ) -> Result<usize, RunFault>
-        requires { ListFrom (O.model self.now.order) start work.old }
-        ensures { Left (O.model self.now.order) (load (R.model self.now.ring) (O.model self.now.order) (length work.old) (joined_entries (R.model self.now.ring) p t.now 1 list.now) (drop start work.old)) start work.old work.new result }
+        terms: &[Term],
+        list: &mut KeptList<O>,
+    ) -> Result<(), RunFault>
+        ensures { Left (load (R.model self.now.ring) (O.model list.old.order.now) (places list.old) (joined_entries (R.model self.now.ring) p t.now 1 terms.now) (items list.old)) list.old list.new result }
     {
         self.load_each(
-            list,
+            terms,
             |q: u64, u: &Term| -> Entry
                 ensures { result ≡ row_entry (joined_entry (R.model self.entry.now.ring) p t.entry.now q u.now) }
             {
@@ -135,8 +114,7 @@ impl<R: Ring, O: MonomialOrder> Rules<R, O> {
                     place: Place::loading(p, q),
                 }
             },
-            work,
-            start,
+            list,
         )
     }
 
@@ -145,16 +123,13 @@ impl<R: Ring, O: MonomialOrder> Rules<R, O> {
         &self,
         first: &[Term],
         second: &[Term],
-        work: &mut [Term],
-        start: usize,
-    ) -> Result<usize, RunFault>
-        requires { ListFrom (O.model self.now.order) start work.old }
-        ensures { Left (O.model self.now.order) (load (R.model self.now.ring) (O.model self.now.order) (length work.old) (product_entries (R.model self.now.ring) 1 first.now second.now) (drop start work.old)) start work.old work.new result }
+        list: &mut KeptList<O>,
+    ) -> Result<(), RunFault>
+        ensures { Left (load (R.model self.now.ring) (O.model list.old.order.now) (places list.old) (product_entries (R.model self.now.ring) 1 first.now second.now) (items list.old)) list.old list.new result }
     {
-        let mut at = start;
         for (i, t) in first.iter().enumerate() {
-            at = self.load_joined(t, i as u64 + 1, second, work, at)?;
+            self.load_joined(t, i as u64 + 1, second, list)?;
         }
-        Ok(at)
+        Ok(())
     }
 }

@@ -1,7 +1,7 @@
 // What a calculation begins with.
-ghost use Rattle.std.specs.Prelude.{List, length, drop};
+ghost use Rattle.std.specs.Prelude.{List};
 ghost use Rattle.coefficients.specs.Coding.{Coding};
-ghost use Rattle.kept.specs.Falling.{ListFrom};
+ghost use Rattle.kept.specs.Lists.{items, places};
 ghost use Rattle.run.specs.declared.relation.Relation.{Relation};
 ghost use Rattle.run.specs.Entries.{Entry, load};
 ghost use Rattle.run.specs.Post.{Left};
@@ -9,20 +9,18 @@ ghost use Rattle.run.specs.Post.{Left};
 use crate::fault::RunFault;
 use crate::rules::Rules;
 use coefficients::ring::Ring;
+use kept::list::KeptList;
 use orders::order::MonomialOrder;
-use words::term::Term;
 
 pub trait Source {
     // what is loaded, under the coding of a ring and the relations of a table
     ghost entries: { Self → Coding → List Relation → List Entry };
 
-    // Inserts the entries one after another, and answers where the list starts then.
+    // Inserts the entries one after another.
     fn load<R: Ring, O: MonomialOrder>(
         &self,
         rules: &Rules<R, O>,
-        work: &mut [Term],
-        start: usize,
-    ) -> Result<usize, RunFault>
-        requires { ListFrom (O.model rules.now.order) start work.old }
-        ensures { Left (O.model rules.now.order) (load (R.model rules.now.ring) (O.model rules.now.order) (length work.old) (entries self.now (R.model rules.now.ring) rules.now.table) (drop start work.old)) start work.old work.new result };
+        list: &mut KeptList<O>,
+    ) -> Result<(), RunFault>
+        ensures { Left (load (R.model rules.now.ring) (O.model list.old.order.now) (places list.old) (entries self.now (R.model rules.now.ring) rules.now.table) (items list.old)) list.old list.new result };
 }

@@ -40,10 +40,9 @@ fn weight(weights: &[u8; 8], letter: u8) -> u8 {
 
 fn place_of(weights: &[u8; 8], row: &[u8; 32]) -> Place {
     let [a, b, c] = [row[0], row[1], row[2]];
-    let mut counts = [0; 8];
-    for i in 0..8u8 {
-        counts[i as usize] = (a == i + 1) as u64 + (b == i + 1) as u64 + (c == i + 1) as u64;
-    }
+    let counts = [1, 2, 3, 4, 5, 6, 7, 8].map(|x| u64::from(a == x)
+        + u64::from(b == x)
+        + u64::from(c == x));
     Place {
         degree: weight(weights, a) as u64 + weight(weights, b) as u64 + weight(weights, c) as u64,
         counts,
@@ -70,13 +69,7 @@ fn agrees<O: MonomialOrder>(rt: &impl Abort, order: &O, weights: &[u8; 8]) {
 
 #[test]
 fn all_words(rt: HostRuntime) -> Result<(), Fail> {
-    let mut words = 0u64;
-    for n in 0..729u64 {
-        if word(n).is_ok() {
-            words += 1;
-        }
-    }
-    assert_eq!(rt; words, 585);
+    assert_eq!(rt; (0..729u64).filter(|n| word(*n).is_ok()).count(), 585);
     Ok(())
 }
 
@@ -87,10 +80,7 @@ fn lex(rt: HostRuntime) {
 
 #[test]
 fn degree(rt: HostRuntime) -> Result<(), Fail> {
-    let mut weights = [Weight::try_from(1)?; 8];
-    for i in 0..8usize {
-        weights[i] = Weight::try_from(WEIGHTS[i] as u64)?;
-    }
+    let weights = WEIGHTS.try_map(|w| Weight::try_from(u64::from(w)))?;
     agrees(&rt, &Degree::new(weights), &WEIGHTS);
     Ok(())
 }

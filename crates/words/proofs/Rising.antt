@@ -1,10 +1,7 @@
 -- Standard words are those without inversions, and those without a leftmost one.
-use Rattle.std.proofs.Common.{◌≡◌, ℕ, suc, ◌+◌, ◌<◌, ◌≤◌, true, cond, ltb, leb, List, [], ◌∷◌, length, get_or, take, drop, ap, Option, Some, None, Bool, false, not, ◌&&◌, add-one, Decides, sym, refl, ◌∙◌, subst, ⊎_elim, arith}
+use Rattle.std.proofs.Common.{◌≡◌, ℕ, suc, ◌+◌, ◌<◌, ◌≤◌, true, cond, ltb, leb, List, [], ◌∷◌, length, get_or, take, Option, Some, None, Bool, false, not, Decides, sym, refl, ◌∙◌, subst, ⊎_elim, arith}
 use Rattle.std.proofs.lemmas.Bool.{cases_Bool, and_parts, and_from, leb-true, ltb-true, ltb-false, le-leb, lt-ltb, le-ltb}
 use Rattle.std.specs.Option.{is_some}
-use Rattle.std.specs.List.{prefix_len, position_from, zip}
-use Rattle.orders.proofs.Steps.{one_more}
-use Rattle.orders.specs.Letters.{letters, is_letter}
 use Rattle.words.specs.Inversions.{below, inversions, rises, standard, falls, leftmost_inversion}
 use Rattle.words.specs.Laws.{StandardWords}
 
@@ -136,33 +133,3 @@ standard_told w t h = go (leftmost_inversion w) t refl h
     go None false e h = cc
     go (Some k) true e h = cc
     go (Some k) false e h = ⊎_elim (λ s. let n = (no_place w).0 s in let z : ◌≡◌ {A = ℕ} 0 1 = cc in absurd (omega arith)) sym (cases_Bool (standard w))
-
--- two neighbours in a row: whether both are letters, and whether they fall
-abbrev pub both_letters : ℕ × ℕ → Bool
-both_letters p = is_letter p.0 && is_letter p.1
-
-abbrev pub falling : ℕ × ℕ → Bool
-falling p = ltb p.1 p.0
-
--- the neighbours in a row that are letters, up to the first that are not
-abbrev pub neighbours : List ℕ → List (ℕ × ℕ)
-neighbours xs = take (prefix_len both_letters (zip xs (drop 1 xs))) (zip xs (drop 1 xs))
-
-falls_from : (k x : ℕ) (xs : List ℕ) → is_letter x ≡ true → position_from falling k (neighbours (x ∷ xs)) ≡ falls k x (letters xs)
-falls_from k x [] h = refl
-falls_from k x (y ∷ ys) h =
-    ⊎_elim
-    (λ (e : is_letter y ≡ true).
-    rw (h, e)
-    (ap (λ m. position_from falling k (take m ((x, y) ∷ zip (y ∷ ys) ys))) (one_more (prefix_len both_letters (zip (y ∷ ys) ys)))
-    ∙ ap (λ r. cond (ltb y x) (Some k) r) (ap (λ j. position_from falling j (neighbours (y ∷ ys))) (add-one k) ∙ falls_from (suc k) y ys e)))
-    (λ (e : is_letter y ≡ false). rw (h, e))
-    (cases_Bool (is_letter y))
-
-pub neighbours_fall : (xs : List ℕ) → position_from falling 0 (neighbours xs) ≡ leftmost_inversion (letters xs)
-neighbours_fall [] = refl
-neighbours_fall (x ∷ xs) = ⊎_elim (λ e. rw e (falls_from 0 x xs e)) (λ e. none xs e) (cases_Bool (is_letter x))
-  where
-    none : (ys : List ℕ) → is_letter x ≡ false → position_from falling 0 (neighbours (x ∷ ys)) ≡ leftmost_inversion (letters (x ∷ ys))
-    none [] e = rw e
-    none (y ∷ ys) e = rw e

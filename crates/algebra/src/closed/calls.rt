@@ -3,8 +3,8 @@
 ghost use Rattle.std.specs.Prelude.{◌≡◌, ◌++◌, Ok, length};
 ghost use Rattle.run.specs.Calls.{calculate as run_answer};
 ghost use Rattle.run.specs.Entries.{then_do};
-ghost use Rattle.algebra.specs.Calls.{Answered, in_first, when_sound, first_list, second_list, checks, calculation_answer, normalise as normal_form, sum as sum_form, difference as difference_form, product as product_form};
-ghost use Rattle.algebra.specs.Overlaps.{passed, by_run};
+ghost use Rattle.algebra.specs.Calls.{Answered, when_sound, first_list, second_list, checks, calculation_answer, normalise as normal_form, sum as sum_form, difference as difference_form, product as product_form};
+ghost use Rattle.algebra.specs.Overlaps.{unplaced, passed, by_run};
 ghost use Rattle.algebra.specs.Scans.{placed};
 ghost use Rattle.algebra.specs.Meaning.{Formed, free_sum};
 ghost use Rattle.normal_forms.specs.Terms.{sum_of};
@@ -37,7 +37,7 @@ fn lists<'a>(calculation: Calculation<'a>) -> (&'a [Term], &'a [Term])
 impl<R: Ring, O: MonomialOrder> Closed<R, O> {
     // A calculation is refused unless the algebra is sound.
     fn check_sound(&self) -> Result<(), CallCause>
-        ensures { placed (in_first 0) result ≡ when_sound self.now.verdict passed }
+        ensures { placed unplaced result ≡ when_sound self.now.verdict passed }
     {
         match self.verdict {
             Verdict::Sound => Ok(()),

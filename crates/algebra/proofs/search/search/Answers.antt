@@ -1,8 +1,8 @@
-use Rattle.std.proofs.Common.{◌≡◌, length, ℕ, Ok, ap, ◌∙◌, arith}
+use Rattle.std.proofs.Common.{length, ℕ, Ok, ap, ◌∙◌, arith}
 use Rattle.std.proofs.lemmas.Result.{err_from_is_err_and}
 use Rattle.run.specs.Calls.{Memory}
 use Rattle.algebra.specs.Decide.{decide_over}
-use Rattle.algebra.proofs.Searching.{first-starts, second-starts, third-starts, next-passes, not_rising, told-of, step-on, step-found, step-refused}
+use Rattle.algebra.proofs.Searching.{first-starts, second-starts, third-starts, next-passes, not_rising, step-on, step-found, step-refused}
 use Rattle.algebra.proofs.search.search.Goals as goal
 
 pub loop-i-init : goal.loop-i-init
@@ -39,46 +39,22 @@ returns-in_err-vanishes g c =
     let r = c.args.rules.now in
     let m = g.R.Ring.model r.ring in
     let o = g.O.MonomialOrder.model r.order in
-    let n = c.args.count.n in
-    let i : ℕ = c.loop-i.i in
-    let j : ℕ = c.loop-j.j in
-    let k : ℕ = c.loop-k.k in
-    let a : ℕ = length c.args.work.now in
-    let b : ℕ = length c.args.out.now in
-    let t = c.in-Ok.triple in
-    let same : (t.i.number ≡ i) × (t.j.number ≡ j) × (t.k.number ≡ k) = c.in-Ok.ensures.triple in
-    let told = told-of m o r.table c.vanishes.result a b (length c.loop-k.work) (length c.loop-k.out) i j k t.i.number t.j.number t.k.number (omega arith) (omega arith) same c.vanishes.ensures in
     let p = err_from_is_err_and c.from_residual.result c.from_residual.ensures.1 in
-    rw (p.1, p.2) (step-refused m o (record { work = a; result = b }) r.table n i j k (omega arith) (omega arith) (omega arith) c.vanishes.result told c.in_err-vanishes.field-0.0 c.in_err-vanishes.was ∙ c.loop-k.invariant)
+    rw (p.1, p.2) (step-refused m o (length c.args.work.now) (length c.args.out.now) r.table c.args.count.n c.loop-i.i c.loop-j.j c.loop-k.k (omega arith) c.in-Ok.triple c.in-Ok.ensures.triple (length c.loop-k.work) (length c.loop-k.out) (omega arith) (omega arith)
+    c.vanishes.result c.vanishes.ensures c.in_err-vanishes.field-0.0 c.in_err-vanishes.was ∙ c.loop-k.invariant)
 
 pub returns-then-not-branch : goal.returns-then-not-branch
 returns-then-not-branch g c =
     let r = c.args.rules.now in
     let m = g.R.Ring.model r.ring in
     let o = g.O.MonomialOrder.model r.order in
-    let n = c.args.count.n in
-    let i : ℕ = c.loop-i.i in
-    let j : ℕ = c.loop-j.j in
-    let k : ℕ = c.loop-k.k in
-    let a : ℕ = length c.args.work.now in
-    let b : ℕ = length c.args.out.now in
-    let t = c.in-Ok.triple in
-    let same : (t.i.number ≡ i) × (t.j.number ≡ j) × (t.k.number ≡ k) = c.in-Ok.ensures.triple in
-    let told = told-of m o r.table c.vanishes.result a b (length c.loop-k.work) (length c.loop-k.out) i j k t.i.number t.j.number t.k.number (omega arith) (omega arith) same c.vanishes.ensures in
-    step-found m o (record { work = a; result = b }) r.table n i j k (omega arith) (omega arith) (omega arith) c.vanishes.result told (c.in_ok-vanishes.was ∙ ap Ok c.if-not-branch.true) ∙ c.loop-k.invariant
+    step-found m o (length c.args.work.now) (length c.args.out.now) r.table c.args.count.n c.loop-i.i c.loop-j.j c.loop-k.k (omega arith) c.in-Ok.triple c.in-Ok.ensures.triple (length c.loop-k.work) (length c.loop-k.out) (omega arith) (omega arith)
+    c.vanishes.result c.vanishes.ensures (c.in_ok-vanishes.was ∙ ap Ok c.if-not-branch.true) ∙ c.loop-k.invariant
 
 pub loop-k-preserved : goal.loop-k-preserved
 loop-k-preserved g c =
     let r = c.args.rules.now in
     let m = g.R.Ring.model r.ring in
     let o = g.O.MonomialOrder.model r.order in
-    let n = c.args.count.n in
-    let i : ℕ = c.loop-i.i in
-    let j : ℕ = c.loop-j.j in
-    let k : ℕ = c.loop-k.k in
-    let a : ℕ = length c.args.work.now in
-    let b : ℕ = length c.args.out.now in
-    let t = c.in-Ok.triple in
-    let same : (t.i.number ≡ i) × (t.j.number ≡ j) × (t.k.number ≡ k) = c.in-Ok.ensures.triple in
-    let told = told-of m o r.table c.vanishes.result a b (length c.loop-k.work) (length c.loop-k.out) i j k t.i.number t.j.number t.k.number (omega arith) (omega arith) same c.vanishes.ensures in
-    step-on m o (record { work = a; result = b }) r.table n i j k (omega arith) (omega arith) (omega arith) c.vanishes.result told (c.in_ok-vanishes.was ∙ ap Ok c.if-not-branch.false) ∙ c.loop-k.invariant
+    step-on m o (length c.args.work.now) (length c.args.out.now) r.table c.args.count.n c.loop-i.i c.loop-j.j c.loop-k.k (omega arith) c.in-Ok.triple c.in-Ok.ensures.triple (length c.loop-k.work) (length c.loop-k.out) (omega arith) (omega arith)
+    c.vanishes.result c.vanishes.ensures (c.in_ok-vanishes.was ∙ ap Ok c.if-not-branch.false) ∙ c.loop-k.invariant

@@ -1,21 +1,39 @@
-use Rattle.std.proofs.Common.{◌≡◌, ◌∙◌, ap, drop, arith, rules, length-drop}
-use borrow.Author.Tests.{tests}
-use Rattle.std.specs.Iterator.Adapters.{zip_second}
-use Rattle.std.specs.Slice.Iter.{iter_rest}
-use Rattle.std.proofs.lemmas.List.{take_all}
-use Rattle.std.proofs.lemmas.Iterator.{YieldsList-from_slice, YieldsList-from_zip}
-use Rattle.std.proofs.lemmas.Iterator.Search.{YieldsList-from_take_while, position_from_yields_List}
-use Rattle.std.proofs.lemmas.Iterator.Adapters.{position_from-zero}
-use Rattle.words.proofs.Rising.{both_letters, falling, neighbours, neighbours_fall}
+use Rattle.std.proofs.Common.{◌≡◌, suc, ◌+◌, ◌-◌, get_or, drop, sym, ap, ◌∙◌, ap₂, arith}
+use Rattle.orders.specs.Letters.{letters}
+use Rattle.orders.proofs.Steps.{letters_stop, letters-go, letters-end}
+use Rattle.words.specs.Inversions.{falls, leftmost_inversion}
+use Rattle.words.proofs.Rising.{falls_here, falls_later}
 use Rattle.words.proofs.row.row_leftmost_inversion.Goals as goal
+
+pub returns-then-not-is_letter : goal.returns-then-not-is_letter
+returns-then-not-is_letter c = sym (ap leftmost_inversion (letters_stop c.args.row.now 0 (omega arith) (cc)))
+
+pub loop-i-init : goal.loop-i-init
+loop-i-init c = sym (ap leftmost_inversion (letters-go c.args.row.now 0 (omega arith) (cc)))
+
+pub returns-then-not-is_letter-2 : goal.returns-then-not-is_letter-2
+returns-then-not-is_letter-2 c =
+    let s = ap (falls (c.loop-i.i - 1) (get_or c.args.row.now (c.loop-i.i - 1) 0)) (letters_stop c.args.row.now c.loop-i.i (omega arith) (cc)) in
+    sym s ∙ c.loop-i.invariant
+
+pub returns-then-row-i : goal.returns-then-row-i
+returns-then-row-i c =
+    let row = c.args.row.now in
+    let i = c.loop-i.i in
+    let s = ap (falls (i - 1) (get_or row (i - 1) 0)) (letters-go row i (omega arith) (cc)) in
+    sym (falls_here (i - 1) (get_or row (i - 1) 0) (get_or row i 0) (letters (drop (i + 1) row)) c.if-row-i.true) ∙ sym s ∙ c.loop-i.invariant
+
+pub loop-i-preserved : goal.loop-i-preserved
+loop-i-preserved c =
+    let row = c.args.row.now in
+    let i = c.loop-i.i in
+    let s = ap (falls (i - 1) (get_or row (i - 1) 0)) (letters-go row i (omega arith) (cc)) in
+    let w = letters (drop (i + 1) row) in
+    let here : i + 1 - 1 ≡ i = omega arith in
+    let next : i + 1 - 1 ≡ suc (i - 1) = omega arith in
+    ap₂ (λ k j. falls k (get_or row j 0) w) next here ∙ sym (falls_later (i - 1) (get_or row (i - 1) 0) (get_or row i 0) w c.if-row-i.false) ∙ sym s ∙ c.loop-i.invariant
 
 pub returns : goal.returns
 returns c =
-    let row = c.args.row.now in
-    let e : c.iter-2.result.rest.now ≡ drop 1 row = c.iter-2.ensures.rest ∙ take_all 31 (drop 1 row) (let d = length-drop 1 row in omega arith) in
-    let rest = ap (λ z. iter_rest (zip_second z)) c.take_while.ensures.source ∙ ap iter_rest c.zip.ensures.second ∙ e in
-    position_from_yields_List falling _ _ c.position.result c.position.ensures.ran
-    (YieldsList-from_take_while _ both_letters (YieldsList-from_zip (YieldsList-from_slice row cc) (YieldsList-from_slice (drop 1 row) rest)) c.take_while.ensures.closure c.take_while.ensures.done (λ x b q k. search (rules, tests)))
-    (λ x b q k. search (rules, tests))
-    ∙ position_from-zero falling (neighbours row)
-    ∙ neighbours_fall row
+    let s = ap (falls (c.loop-i.i - 1) (get_or c.args.row.now (c.loop-i.i - 1) 0)) (letters-end c.args.row.now c.loop-i.i (omega arith)) in
+    sym s ∙ c.loop-i.invariant

@@ -5,7 +5,7 @@ use Rattle.std.proofs.lemmas.Result.{err_from_is_err_and}
 use Rattle.kept.specs.Terms.{nil_term}
 use Rattle.run.specs.Entries.{then_do}
 use Rattle.relations.specs.Declare.{AllFull}
-use Rattle.relations.proofs.Checking.{placed-at, tail_from, tail-more, tail-all, last-more}
+use Rattle.relations.proofs.Checking.{tail_from, tail-more, tail-all, last-more}
 use Rattle.relations.proofs.presentation.Presentation.check_tail.Goals as goal
 
 pub returns-in_err-map_err-clause-answer : goal.returns-in_err-map_err-clause-answer
@@ -17,13 +17,11 @@ returns-in_err-map_err-clause-answer g c =
     let i = c.args.pair.i.number in
     let ts = c.args.tail.now in
     let k = c.loop-e.e-counter in
-    let placed = placed-at (k + 1) c.check_term.result c.map_err.result c.map_err.ensures.cases (λ e f h. search rules) in
     let p = err_from_is_err_and c.from_residual.result c.from_residual.ensures.1 in
-    rw (p.1, p.2) (
-    ap (λ r. then_do r (λ _. tail_from m o s.count.n j i ts (k + 1))) (sym c.in_err-map_err.was)
-    ∙ tail-more m o s.count.n j i ts k (option_map (λ x. x.now) c.loop-e.last) c.map_err.result (omega arith) c.loop-e.invariant.last (sym placed ∙ c.check_term.ensures.answer (k + 1))
-    ∙ c.loop-e.invariant.same
-    )
+    rw (p.1, p.2)
+    (ap (λ r. then_do r (λ _. tail_from m o s.count.n j i ts (k + 1))) (sym c.in_err-map_err.was)
+    ∙ tail-more m o s.count.n j i ts k (option_map (λ x. x.now) c.loop-e.last) c.check_term.result c.map_err.result (omega arith) c.loop-e.invariant.last c.check_term.ensures.answer c.map_err.ensures.cases (λ e f h. search rules)
+    ∙ c.loop-e.invariant.same)
 
 pub loop-e-preserved : goal.loop-e-preserved
 loop-e-preserved g c =
@@ -34,13 +32,12 @@ loop-e-preserved g c =
     let i = c.args.pair.i.number in
     let ts = c.args.tail.now in
     let k = c.loop-e.e-counter in
-    let placed = placed-at (k + 1) c.check_term.result c.map_err.result c.map_err.ensures.cases (λ e f h. search rules) in
     record {
       last = last-more ts k;
       full = λ h. c.loop-e.invariant.full (subst AllFull (sym (drop_more ts k nil_term (omega arith))) (c.check_term.ensures.full, h));
       same =
           ap (λ r. then_do r (λ _. tail_from m o s.count.n j i ts (k + 1))) (sym c.in_ok-map_err.was)
-          ∙ tail-more m o s.count.n j i ts k (option_map (λ x. x.now) c.loop-e.last) c.map_err.result (omega arith) c.loop-e.invariant.last (sym placed ∙ c.check_term.ensures.answer (k + 1))
+          ∙ tail-more m o s.count.n j i ts k (option_map (λ x. x.now) c.loop-e.last) c.check_term.result c.map_err.result (omega arith) c.loop-e.invariant.last c.check_term.ensures.answer c.map_err.ensures.cases (λ e f h. search rules)
           ∙ c.loop-e.invariant.same;
     }
 

@@ -1,6 +1,7 @@
-use Rattle.std.proofs.Common.{◌≡◌, ℕ, ◌+◌, [], ◌∷◌, length, get_or, drop, Some, refl, arith}
+use Rattle.std.proofs.Common.{◌≡◌, ℕ, ◌+◌, [], ◌∷◌, get_or, Some}
 use Rattle.std.proofs.lemmas.Result.{err_from_is_err_and}
 use Rattle.orders.specs.Letters.{letters}
+use Rattle.kept.specs.Lists.{items, places}
 use Rattle.run.specs.Entries.{Entry, row_entry}
 use Rattle.run.specs.Faults.{stepping}
 use Rattle.run.specs.Pieces.{around}
@@ -10,12 +11,11 @@ use Rattle.run.specs.declared.entry.Entry.{Entry as RowEntry}
 use Rattle.run.proofs.Entering.{left_cons, cons-err}
 use Rattle.run.proofs.rules.Rules.rewrite.Goals as goal
 
-pub returns-in_err-at : goal.returns-in_err-at
+pub returns-in_err-add_entry : goal.returns-in_err-add_entry
 unfolding entries_at
-returns-in_err-at g c =
+returns-in_err-add_entry g c =
     let m = g.R.Ring.model c.args.self.now.ring in
-    let o = g.O.MonomialOrder.model c.args.self.now.order in
-    let cap : ℕ = length c.args.work.now in
+    let l = c.args.list.now in
     let w = letters c.args.t.now.row in
     let a : ℕ = c.args.t.now.code in
     let k : ℕ = c.args.k in
@@ -26,15 +26,15 @@ returns-in_err-at g c =
     let e : Entry = record { word = around w k (i ∷ j ∷ []); code = m.product a r.factor; place = stepping n j i 0 } in
     let x : RowEntry = record { row = Some c.exchanged_row.result; code = c.product.result; place = c.stepping-place.result } in
     let same : x ≡ row_entry e = cc in
+    let h = c.in_err-add_entry.ensures in
     let p = err_from_is_err_and c.from_residual.result c.from_residual.ensures.1 in
-    rw (p.1, p.2) (cons-err m o cap cap e x (tail_entries m n j i w k a 1 (tail_of r)) (drop c.args.start c.args.work.now) same refl c.in_err-at.field-0.0 c.in_err-at.ensures)
+    rw (p.1, p.2)
+    (h.0, cons-err m (g.O.MonomialOrder.model l.order.now) (places l) e x (tail_entries m n j i w k a 1 (tail_of r)) (items l) same c.in_err-add_entry.field-0.0 h.1)
 
 pub returns : goal.returns
 unfolding entries_at
 returns g c =
     let m = g.R.Ring.model c.args.self.now.ring in
-    let o = g.O.MonomialOrder.model c.args.self.now.order in
-    let cap : ℕ = length c.args.work.now in
     let w = letters c.args.t.now.row in
     let a : ℕ = c.args.t.now.code in
     let k : ℕ = c.args.k in
@@ -47,5 +47,4 @@ returns g c =
     let same : x ≡ row_entry e = cc in
     let place : c.stepping-place.result ≡ stepping n j i 0 = cc in
     let tail : c.tail.result.now ≡ tail_of r = cc in
-    let mid = c.add_entry.new.work in
-    left_cons m o cap (length mid) c.args.start c.in_ok-at.at c.args.work.now mid c.add_tail.new.work (tail_entries m n j i w k a 1 (tail_of r)) c.add_tail.result (omega arith) (rw (place, tail) at c.add_tail.ensures) e x same c.in_ok-at.ensures
+    left_cons g.O.MonomialOrder.model m c.args.list.now c.add_entry.new.list c.add_tail.new.list (tail_entries m n j i w k a 1 (tail_of r)) c.add_tail.result (rw (place, tail) at c.add_tail.ensures) e x tt same c.in_ok-add_entry.ensures

@@ -1,22 +1,23 @@
-use Rattle.std.proofs.Common.{◌≡◌, ◌-◌, ◌≤◌, [], length, take, drop}
-use Rattle.kept.specs.Falling.{ListFrom}
-use Rattle.run.specs.Post.{Clean}
+use Rattle.std.proofs.Common.{◌≡◌, ◌-◌, ◌≤◌}
+use Rattle.kept.specs.Lists.{items, places, SameMemory, BlankBefore}
+use Rattle.run.specs.Dones.{room, terms, SameResult, BlankBehind}
 use Rattle.run.specs.Step.{run_from}
 use Rattle.run.proofs.rules.Rules.run_steps.Given as goal
 
-abbrev pub invariant-loop-at : goal.invariant-loop-at
-invariant-loop-at g l =
+abbrev pub invariant-loop-t : goal.invariant-loop-t
+invariant-loop-t g l =
     let m = g.R.Ring.model l.self.ring in
-    let o = g.O.MonomialOrder.model l.self.order in
-    let cap = length l.initial.work in
-    let room = length l.initial.out in
+    let o = g.O.MonomialOrder.model l.initial.list.order.now in
+    let cap = places l.initial.list in
+    let out = room l.initial.done in
     record {
-      list : ListFrom o l.at l.work;
-      done : l.count ≤ length l.out;
+      same : SameMemory l.initial.list l.list;
+      same_result : SameResult l.initial.done l.done;
       few : l.steps ≤ l.limit;
-      so_far : run_from m o l.self.table cap room (l.limit - l.steps) l.steps (drop l.at l.work) (take l.count l.out) ≡ run_from m o l.self.table cap room l.limit 0 (drop l.start l.initial.work) [];
-      clean : Clean l.start l.initial.work 0 l.initial.out → Clean l.at l.work l.count l.out;
+      so_far : run_from m o l.self.table cap out (l.limit - l.steps) l.steps (items l.list) (terms l.done) ≡ run_from m o l.self.table cap out l.limit 0 (items l.initial.list) (terms l.initial.done);
+      blank : BlankBefore l.initial.list → BlankBefore l.list;
+      blank_result : BlankBehind l.initial.done → BlankBehind l.done;
     }
 
-abbrev pub decreases-loop-at : goal.decreases-loop-at
-decreases-loop-at g l = l.limit - l.steps
+abbrev pub decreases-loop-t : goal.decreases-loop-t
+decreases-loop-t g l = l.limit - l.steps
