@@ -1,10 +1,7 @@
 -- What is appended by the writer of letters.
-use Rattle.std.proofs.Common.{◌≡◌, ℕ, ◌+◌, ◌-◌, ◌<◌, Bool, true, false, cond, List, [], ◌∷◌, length, get_or, take, drop, replicate, Ok, Err, refl, ap, ◌∙◌, ap₂, arith}
-use Rattle.std.proofs.lemmas.List.{at_drop_more, take_at}
-use Rattle.coefficients.specs.declared.fault.RingFault.TheVariants.{NotInUse}
-use Rattle.coefficients.specs.Coding.{Coding, Answer, write_answer, filled}
+use Rattle.std.proofs.Common.{◌≡◌, ℕ, ◌+◌, ◌<◌, true, cond, List, [], ◌∷◌, length, get_or, drop, ap, ◌∙◌}
+use Rattle.std.proofs.lemmas.List.{at_drop_more}
 use Rattle.orders.specs.Letters.{is_letter, letters}
-use Rattle.answers.specs.Text.{written}
 
 -- the letters from place i on, where the next is one
 pub letters-more : (row : List ℕ) (i : ℕ) → i < length row → is_letter (get_or row i 0) ≡ true → letters (drop i row) ≡ get_or row i 0 ∷ letters (drop (i + 1) row)

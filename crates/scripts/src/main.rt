@@ -15,9 +15,7 @@ const VERSION: &str = "calculator 0.1, for G-algebras\n";
 // All that a reader gives, or one byte more than a script may have.
 fn read_script<R: Read + Drop>(heap: Global, reader: R) -> io::Result<Vec<u8>> {
     let mut input = Vec::new(heap);
-    reader
-        .take(INPUT_BYTES as u64 + 1)
-        .read_to_end(&mut input)?;
+    reader.take(INPUT_BYTES as u64 + 1).read_to_end(&mut input)?;
     Ok(input)
 }
 

@@ -1,7 +1,6 @@
 use Rattle.std.proofs.Common.{◌++◌, codes, decimal, get_or, sym, ap, ◌∙◌, arith, rules}
-use Rattle.std.proofs.Output.{has_written_append, has_written_of_eq}
-use Rattle.std.proofs.lemmas.List.{at_drop_all, append_assoc, append-nil}
-use Rattle.orders.specs.Letters.{letters}
+use Rattle.std.proofs.Output.{has_written_append}
+use Rattle.std.proofs.lemmas.List.{append_assoc}
 use Rattle.answers.specs.Text.{letters_bytes}
 use Rattle.answers.proofs.Appending.{letters-more}
 use Rattle.answers.proofs.list.LettersDisplay.fmt.Goals as goal
