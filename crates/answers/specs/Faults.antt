@@ -1,5 +1,5 @@
 -- The refusal of each fault of a script: number, layer and places as the layer that it comes from gives them, and the triple of a decision.
-use Rattle.std.specs.Prelude.{ℕ, Option, Some, None, unwrap_or}
+use Rattle.std.specs.Prelude.{ℕ}
 use Rattle.refusals.specs.declared.Refusal.{Refusal}
 use Rattle.refusals.specs.Refusals.{plain}
 use Rattle.coefficients.specs.Faults.{ring_refusal}
@@ -25,19 +25,14 @@ script_refusal (Declare f) = declare_refusal f
 script_refusal (Algebra f) = algebra_refusal f
 script_refusal (Decide f) = algebra_refusal f.overlap
 
--- the triple that a decision was refused at
-abbrev pub decision_triple : ScriptFault → Option (ℕ × ℕ × ℕ)
-decision_triple (Form f) = None
-decision_triple OutOfTurn = None
-decision_triple (Coefficient f) = None
-decision_triple (Word f) = None
-decision_triple (Count f) = None
-decision_triple (Modulus f) = None
-decision_triple (Weight f) = None
-decision_triple (Declare f) = None
-decision_triple (Algebra f) = None
-decision_triple (Decide f) = Some (f.i, f.j, f.k)
-
--- as it is printed: zeros where there is none
 abbrev pub script_triple : ScriptFault → ℕ × ℕ × ℕ
-script_triple f = unwrap_or (decision_triple f) (0, 0, 0)
+script_triple (Form f) = (0, 0, 0)
+script_triple OutOfTurn = (0, 0, 0)
+script_triple (Coefficient f) = (0, 0, 0)
+script_triple (Word f) = (0, 0, 0)
+script_triple (Count f) = (0, 0, 0)
+script_triple (Modulus f) = (0, 0, 0)
+script_triple (Weight f) = (0, 0, 0)
+script_triple (Declare f) = (0, 0, 0)
+script_triple (Algebra f) = (0, 0, 0)
+script_triple (Decide f) = (f.i, f.j, f.k)

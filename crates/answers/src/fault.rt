@@ -1,6 +1,6 @@
 // Why a line of a script is refused: the faults of every layer below, and a form out of turn.
 ghost use Rattle.std.specs.Prelude.{◌≡◌};
-ghost use Rattle.answers.specs.Faults.{script_refusal, decision_triple};
+ghost use Rattle.answers.specs.Faults.{script_refusal, script_triple};
 ghost use Rattle.answers.specs.declared.fault.ScriptFault.TheVariants.{Form, Coefficient, Word, Count, Modulus, Weight, Declare, Algebra, Decide};
 
 use algebra::fault::{AlgebraFault, DecideFault};
@@ -123,13 +123,13 @@ impl From<ScriptFault> for Refusal {
 }
 
 impl ScriptFault {
-    // The triple that a decision was refused at.
-    pub fn triple(&self) -> Option<(u64, u64, u64)>
-        ensures { result ≡ decision_triple self.now }
+    // The triple of a decision's fault, else zeros: every refusal is printed with one.
+    pub fn triple(&self) -> (u64, u64, u64)
+        ensures { result ≡ script_triple self.now }
     {
         match self {
-            ScriptFault::Decide(f) => Some((f.i, f.j, f.k)),
-            _ => None,
+            ScriptFault::Decide(f) => (f.i, f.j, f.k),
+            _ => (0, 0, 0),
         }
     }
 }

@@ -53,7 +53,7 @@ impl Display for RefusedLine {
             b,
             e,
         } = Refusal::from(self.fault);
-        let (i, j, k) = self.fault.triple().unwrap_or((0, 0, 0));
+        let (i, j, k) = self.fault.triple();
         write!(
             f,
             "(refused {number} {layer} {line} {step} {a} {b} {e} {i} {j} {k})"

@@ -28,24 +28,22 @@ fn step<R: Ring, O: MonomialOrder>(
     ensures room { stack.new.room ≡ stack.old.room }
     ensures same { Same bench.old bench.new }
 {
-    match piece {
+    let value = match piece {
         Piece::Generator(x) => {
             stack.check_room()?;
-            let value = bench.generator(x)?;
-            stack.push(value)
+            bench.generator(x)?
         }
         Piece::Coefficient(text) => {
             stack.check_room()?;
-            let value = bench.coefficient(text)?;
-            stack.push(value)
+            bench.coefficient(text)?
         }
         Piece::Join(operator) => {
             let second = stack.pop()?;
             let first = stack.pop()?;
-            let value = bench.join(operator, &first, &second)?;
-            stack.push(value)
+            bench.join(operator, &first, &second)?
         }
-    }
+    };
+    stack.push(value)
 }
 
 // What the pieces come to: those of an expression are worked out from the left, inner first, each operand joined to those before it. Any

@@ -8,7 +8,7 @@ use std::mem::replace;
 use words::term::Term;
 
 // The list from `start` on gets t before the term at p: those before p move forward by one place.
-pub(crate) fn put_in(work: &mut [Term], start: usize, p: usize, t: Term)
+pub fn put_in(work: &mut [Term], start: usize, p: usize, t: Term)
     requires room { 0 < start }
     requires from { start ≤ p }
     requires to { p ≤ length work.old }
@@ -20,7 +20,7 @@ pub(crate) fn put_in(work: &mut [Term], start: usize, p: usize, t: Term)
 }
 
 // The list from `start` on loses the term at p: those before it move back by one place, and the free place is blank.
-pub(crate) fn take_out(work: &mut [Term], start: usize, p: usize)
+pub fn take_out(work: &mut [Term], start: usize, p: usize)
     requires from { start ≤ p }
     requires to { p < length work.old }
     ensures list { drop (start + 1) work.new ≡ remove (drop start work.old) (p - start) }
@@ -31,7 +31,7 @@ pub(crate) fn take_out(work: &mut [Term], start: usize, p: usize)
 }
 
 // Takes the first term of the list from `start` on out; its place is blank then.
-pub(crate) fn take_first(work: &mut [Term], start: usize) -> Term
+pub fn take_first(work: &mut [Term], start: usize) -> Term
     requires { start < length work.old }
     ensures value { result ≡ slice_index_or work.old start nil_term }
     ensures list { drop (start + 1) work.new ≡ drop (start + 1) work.old }

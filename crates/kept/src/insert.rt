@@ -14,7 +14,7 @@ use words::measured::Measured;
 use words::term::Term;
 
 // Inserts a term, and answers where the list starts then; the places before `start` are free.
-pub(crate) fn insert<R: Ring, O: MonomialOrder>(
+pub fn insert<R: Ring, O: MonomialOrder>(
     ring: &R,
     order: &O,
     work: &mut [Term],

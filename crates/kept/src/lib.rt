@@ -1,8 +1,8 @@
 // The kept list: terms whose words strictly fall and whose coefficients are not zero, at the end of a lent memory.
 #![tactic(auto)]
 
-mod edits;
+pub mod edits;
 pub mod fault;
-mod insert;
+pub mod insert;
 pub mod list;
-mod search;
+pub mod search;

@@ -65,7 +65,7 @@ fn halve<O: MonomialOrder>(
 }
 
 // The place of the term's word, or where it belongs.
-pub(crate) fn find_place<O: MonomialOrder>(
+pub fn find_place<O: MonomialOrder>(
     order: &O,
     work: &[Term],
     start: usize,

@@ -28,9 +28,9 @@ fn lists<'a>(calculation: Calculation<'a>) -> (&'a [Term], &'a [Term])
 {
     match calculation {
         Calculation::Normalise(list) => (list, &[]),
-        Calculation::Sum(first, second) => (first, second),
-        Calculation::Difference(first, second) => (first, second),
-        Calculation::Product(first, second) => (first, second),
+        Calculation::Sum(first, second)
+        | Calculation::Difference(first, second)
+        | Calculation::Product(first, second) => (first, second),
     }
 }
 

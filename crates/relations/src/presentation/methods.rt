@@ -59,6 +59,14 @@ impl<R: Ring, O: MonomialOrder> Presentation<R, O> {
         &self.rules
     }
 
+    // What rewriting goes by, for a caller that needs no more.
+    pub fn into_rules(self) -> Rules<R, O>
+        ensures { result ≡ self.rules }
+    {
+        let Presentation { rules, count: _ } = self;
+        rules
+    }
+
     pub fn count(&self) -> Count
         ensures { result ≡ self.now.count }
     {
