@@ -6,6 +6,7 @@ mod done;
 pub mod engine;
 pub mod entry;
 pub mod fault;
+mod inversion;
 pub mod load;
 pub mod relation;
 pub mod rules;

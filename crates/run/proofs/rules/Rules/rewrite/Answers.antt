@@ -16,9 +16,9 @@ unfolding entries_at
 returns-in_err-add_entry g c =
     let m = g.R.Ring.model c.args.self.now.ring in
     let l = c.args.list.now in
-    let w = letters c.args.t.now.row in
-    let a : ℕ = c.args.t.now.code in
-    let k : ℕ = c.args.k in
+    let w = letters c.args.inversion.t.now.row in
+    let a : ℕ = c.args.inversion.t.now.code in
+    let k : ℕ = c.args.inversion.k in
     let n : ℕ = c.args.n in
     let j : ℕ = get_or w k 0 in
     let i : ℕ = get_or w (k + 1) 0 in
@@ -35,9 +35,9 @@ pub returns : goal.returns
 unfolding entries_at
 returns g c =
     let m = g.R.Ring.model c.args.self.now.ring in
-    let w = letters c.args.t.now.row in
-    let a : ℕ = c.args.t.now.code in
-    let k : ℕ = c.args.k in
+    let w = letters c.args.inversion.t.now.row in
+    let a : ℕ = c.args.inversion.t.now.code in
+    let k : ℕ = c.args.inversion.k in
     let n : ℕ = c.args.n in
     let j : ℕ = get_or w k 0 in
     let i : ℕ = get_or w (k + 1) 0 in

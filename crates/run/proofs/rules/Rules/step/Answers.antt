@@ -1,11 +1,7 @@
-use Rattle.std.proofs.Common.{Some, rules}
-use Rattle.orders.specs.Letters.{letters}
+use Rattle.std.proofs.Common.{rules}
 use Rattle.run.specs.Faults.{at_step}
-use Rattle.run.proofs.Stepping.{within, placed, stepped_done, stepped_on}
+use Rattle.run.proofs.Stepping.{placed, stepped_done, stepped_on}
 use Rattle.run.proofs.rules.Rules.step.Goals as goal
-
-pub rewrite-requires : goal.rewrite-requires
-rewrite-requires g c = within (letters c.args.t.row) (Some c.in-Some.k) c.in-Some.ensures
 
 pub returns-in-None : goal.returns-in-None
 returns-in-None g c =
@@ -17,4 +13,4 @@ returns-in-None g c =
 pub returns-in-Some : goal.returns-in-Some
 returns-in-Some g c =
     let m = g.R.Ring.model c.args.self.now.ring in
-    stepped_on g.O.MonomialOrder.model m c.args.self.now.table c.args.n c.args.t c.args.list.now c.args.done.now c.rewrite.new.list c.rewrite.result c.in-Some.k c.in-Some.ensures c.rewrite.ensures
+    stepped_on g.O.MonomialOrder.model m c.args.self.now.table c.args.n c.args.t c.args.list.now c.args.done.now c.rewrite.new.list c.rewrite.result c.in-Some.inversion.k c.in-Some.ensures.1 (rw (c.in-Some.ensures.0) at c.rewrite.ensures)
