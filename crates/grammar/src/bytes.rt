@@ -89,10 +89,7 @@ pub(crate) fn generator(s: &[u8]) -> Result<(u64, &[u8]), ReadFault>
 fn coefficient_in(a: &[u8]) -> Option<&[u8]>
     ensures { CoefficientIn a.now result }
 {
-    match generator_in(a) {
-        Some(_) => None,
-        None => Some(a),
-    }
+    generator_in(a).is_none().then_some(a)
 }
 
 pub(crate) fn coefficient(s: &[u8]) -> Result<(&[u8], &[u8]), ReadFault>

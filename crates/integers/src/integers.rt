@@ -33,14 +33,13 @@ fn value(a: u64) -> Result<i64, RingFault>
 fn code(z: i64) -> Result<u64, RingFault>
     ensures { result ≡ code_below code_bound (integer_number z) }
 {
-    if z > GREATEST as i64 || z < -(GREATEST as i64) {
-        return Err(RingFault::NoCode);
-    }
-    if z >= 0 {
-        Ok(z as u64 * 2)
+    let n = z.unsigned_abs();
+    let code = if z < 0 {
+        code_of_negative(n)
     } else {
-        Ok((-1 - z) as u64 * 2 + 1)
-    }
+        code_of_natural(n)
+    };
+    code.ok_or(RingFault::NoCode)
 }
 
 // The code of −n, for n from 1.
