@@ -46,10 +46,10 @@ fn term(letters: &[u8], code: u64) -> Result<Term, WordFault> {
 
 // x_j x_i = x_i x_j + one term.
 fn declare(table: &mut Table, j: u64, i: u64, letters: &[u8], code: u64) -> Option<()> {
-    let j = Letter::new(j)?.number() as usize;
-    let i = Letter::new(i)?.number() as usize;
+    let j = Letter::new(j)?;
+    let i = Letter::new(i)?;
     let tail = term(letters, code).ok()?;
-    table[8 * (j - 1) + (i - 1)] = Relation::new(ONE, &[tail])?;
+    table[Relation::pair_place(j, i)] = Relation::new(ONE, &[tail])?;
     Some(())
 }
 

@@ -6,6 +6,7 @@ ghost use Rattle.run.specs.Relations.{pair_place};
 use crate::pair::Pair;
 use crate::row::row_of;
 use orders::letter::Row;
+use run::relation::Relation;
 
 impl Pair {
     // The place of the relation in a table.
@@ -13,7 +14,7 @@ impl Pair {
         ensures value { result ≡ pair_place self.now.j.number self.now.i.number }
         ensures bound { result < 64 }
     {
-        8 * (self.j.number() as usize - 1) + (self.i.number() as usize - 1)
+        Relation::pair_place(self.j, self.i)
     }
 
     // The word x_i x_j.

@@ -1,6 +1,6 @@
 // How relations are made, and what is asked of them.
 ghost use Rattle.std.specs.Prelude.{◌≡◌, ◌<◌, length, IfSome, MatchOption};
-ghost use Rattle.run.specs.Relations.{relation_of, tail_of, made_relation};
+ghost use Rattle.run.specs.Relations.{pair_place, relation_of, tail_of, made_relation};
 
 use crate::relation::{Relation, TAIL_TERMS, Table};
 use orders::letter::Letter;
@@ -37,13 +37,20 @@ impl Relation {
         &self.tail[0..self.count]
     }
 
+    // The place of the relation of x_j x_i in a table.
+    pub fn pair_place(j: Letter, i: Letter) -> usize
+        ensures value { result ≡ pair_place j.number i.number }
+        ensures bound { result < 64 }
+    {
+        let j = j.number() as usize;
+        let i = i.number() as usize;
+        8 * (j - 1) + (i - 1)
+    }
+
     // The relation of x_j x_i.
     pub fn of_pair(table: &Table, j: Letter, i: Letter) -> &Relation
         ensures { result.now ≡ relation_of table.now j.number i.number }
     {
-        let j = j.number() as usize;
-        let i = i.number() as usize;
-        let place = 8 * (j - 1) + (i - 1);
-        &table[place]
+        &table[Relation::pair_place(j, i)]
     }
 }
