@@ -1,4 +1,4 @@
-// Lists of terms as answers, appended to what is written already.
+// Lists of terms as answers, appended to what is written already. A ring writes bytes, which need not be text, so a list is no `Display`.
 ghost use Rattle.std.specs.Prelude.{◌≡◌, ◌++◌, Some, OnOk};
 ghost use Rattle.orders.specs.Letters.{letters};
 ghost use Rattle.choices.specs.Rings.{ring_model};
@@ -9,7 +9,7 @@ use crate::text::push_printed;
 use choices::ring::AnyRing;
 use coefficients::ring::Ring;
 use orders::letter::is_letter;
-use std::alloc::{AllocError, Global};
+use std::alloc::AllocError;
 use std::fmt;
 use std::fmt::Display;
 use words::term::Term;
@@ -43,47 +43,32 @@ fn push_code<R: Ring>(out: &mut Vec<u8>, ring: &R, code: u64) -> Result<(), Allo
     Ok(())
 }
 
-fn push_term<R: Ring>(
-    heap: Global,
-    out: &mut Vec<u8>,
-    ring: &R,
-    term: &Term,
-) -> Result<(), AllocError>
+fn push_term<R: Ring>(out: &mut Vec<u8>, ring: &R, term: &Term) -> Result<(), AllocError>
     ensures { OnOk result (out.new.items ≡ out.old.items ++ term_bytes (R.model ring.now) term.now) }
 {
     out.push(b'(')?;
     push_code(out, ring, term.code)?;
-    push_printed(heap, out, &Letters(&term.row))?;
+    push_printed(out, &Letters(&term.row))?;
     out.push(b')')?;
     Ok(())
 }
 
 // Each term behind a space.
-fn push_terms<R: Ring>(
-    heap: Global,
-    out: &mut Vec<u8>,
-    ring: &R,
-    terms: &[Term],
-) -> Result<(), AllocError>
+fn push_terms<R: Ring>(out: &mut Vec<u8>, ring: &R, terms: &[Term]) -> Result<(), AllocError>
     ensures { OnOk result (out.new.items ≡ out.old.items ++ terms_bytes (R.model ring.now) terms.now) }
 {
     for term in terms {
         out.push(b' ')?;
-        push_term(heap, out, ring, term)?;
+        push_term(out, ring, term)?;
     }
     Ok(())
 }
 
-pub fn push_list<R: Ring>(
-    heap: Global,
-    out: &mut Vec<u8>,
-    ring: &R,
-    terms: &[Term],
-) -> Result<(), AllocError>
+pub fn push_list<R: Ring>(out: &mut Vec<u8>, ring: &R, terms: &[Term]) -> Result<(), AllocError>
     ensures { OnOk result (out.new.items ≡ out.old.items ++ list_bytes (R.model ring.now) terms.now) }
 {
     out.extend_from_slice(b"(list")?;
-    push_terms(heap, out, ring, terms)?;
+    push_terms(out, ring, terms)?;
     out.push(b')')?;
     Ok(())
 }

@@ -5,7 +5,7 @@ ghost use Rattle.answers.specs.Text.{report_bytes, refused_bytes};
 use crate::fault::ScriptFault;
 use algebra::verdict::Verdict;
 use refusals::Refusal;
-use std::alloc::{AllocError, Global};
+use std::alloc::AllocError;
 use std::fmt;
 use std::fmt::Display;
 
@@ -62,13 +62,9 @@ impl Display for RefusedLine {
 }
 
 // Appends what a value prints.
-pub fn push_printed<T: Display>(
-    heap: Global,
-    out: &mut Vec<u8>,
-    value: &T,
-) -> Result<(), AllocError>
+pub fn push_printed<T: Display>(out: &mut Vec<u8>, value: &T) -> Result<(), AllocError>
     ensures { OnOk result (IfSome (T.output value.now) (λ text. out.new.items ≡ out.old.items ++ text)) }
 {
-    let text = value.to_string(heap)?;
+    let text = value.to_string(*out.allocator())?;
     out.extend_from_slice(text.as_bytes())
 }

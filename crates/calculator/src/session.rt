@@ -72,7 +72,7 @@ pub fn tell<R: Ring + Drop, O: MonomialOrder + Drop>(
     let mut work = [Term::blank(); PLACES];
     let mut out = [Term::blank(); PLACES];
     let verdict = algebra.decide(&mut work, &mut out)?;
-    push_printed(heap, told, &VerdictText(verdict))?;
+    push_printed(told, &VerdictText(verdict))?;
     told.push(b'\n')?;
     let line = calculated(heap, &algebra, calculation)?;
     told.extend_from_slice(line.as_slice())?;

@@ -32,11 +32,11 @@ pub fn calculation_line<R: Ring>(
 ) -> Result<Vec<u8>, AllocError> {
     let mut line = Vec::new(heap);
     for operand in operands {
-        push_list(heap, &mut line, ring, &[*operand])?;
+        push_list(&mut line, ring, &[*operand])?;
         line.push(b' ')?;
     }
     line.extend_from_slice(b"= ")?;
-    push_list(heap, &mut line, ring, terms)?;
+    push_list(&mut line, ring, terms)?;
     line.extend_from_slice(format!(in heap; " in {steps} steps\n")?.as_bytes())?;
     Ok(line)
 }

@@ -6,7 +6,7 @@ use words::term::Term;
 // The most terms that a value has.
 pub const VALUE_TERMS: usize = 64;
 
-// The first `count` terms.
+// The first `count` terms. An array with no memory of its own, so that a frame is `Copy` and an array of frames can be lent.
 #[derive(Clone, Copy)]
 pub struct Frame {
     terms: [Term; VALUE_TERMS],

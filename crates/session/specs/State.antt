@@ -15,6 +15,7 @@ pub data State : Type 0 where
   declaring : AnyRing → AnyOrder → ℕ → List Relation → List Bool → State
   calculating : AnyRing → AnyOrder → ℕ → List Relation → Verdict → State
 
+-- of an open algebra
 abbrev pub open_state : {kr : _} {ko : _} → OpenAlgebra AnyRing AnyOrder kr ko → State
 open_state a = declaring a.presentation.rules.ring a.presentation.rules.order a.presentation.count.n a.presentation.rules.table a.declared
 

@@ -7,7 +7,7 @@ use answers::list::push_list;
 use answers::text::{Report, push_printed};
 use choices::ring::AnyRing;
 use evaluation::frame::Frame;
-use std::alloc::{AllocError, Global};
+use std::alloc::AllocError;
 
 #[derive(Clone, Copy)]
 pub enum Answer {
@@ -18,12 +18,12 @@ pub enum Answer {
 
 impl Answer {
     // Appends the bytes of the answer.
-    pub fn push(&self, heap: Global, out: &mut Vec<u8>) -> Result<(), AllocError>
+    pub fn push(&self, out: &mut Vec<u8>) -> Result<(), AllocError>
         ensures { OnOk result ((number : ℕ) → out.new.items ≡ out.old.items ++ answer_bytes number (answer_of self.now)) }
     {
         match self {
-            Answer::Reported(report) => push_printed(heap, out, report),
-            Answer::Listed(ring, frame) => push_list(heap, out, ring, frame.terms()),
+            Answer::Reported(report) => push_printed(out, report),
+            Answer::Listed(ring, frame) => push_list(out, ring, frame.terms()),
         }
     }
 }

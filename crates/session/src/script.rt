@@ -67,7 +67,7 @@ pub fn answer_script(heap: Global, input: &[u8]) -> Result<Vec<u8>, AllocError>
     if input.len() > INPUT_BYTES {
         let mut out = Vec::new(heap);
         let fault = ScriptFault::Form(FormFault::TooLong);
-        push_printed(heap, &mut out, &RefusedLine { number: 0, fault })?;
+        push_printed(&mut out, &RefusedLine { number: 0, fault })?;
         out.push(b'\n')?;
         return Ok(out);
     }

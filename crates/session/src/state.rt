@@ -7,7 +7,8 @@ use choices::order::AnyOrder;
 use choices::ring::AnyRing;
 use relations::open::Open;
 
-// Which forms are in turn: at first only algebra, then rel and decide, after closing decide and calc.
+// Which forms are in turn: at first only algebra, then rel and decide, after closing decide and calc. A plain value, so that one match on it and
+// the form settles the turn, whatever is done to the algebra beside it.
 #[derive(Clone, Copy, PartialEq, Eq)]
 pub enum Tag {
     Start,

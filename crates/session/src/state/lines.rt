@@ -17,7 +17,6 @@ use std::alloc::{AllocError, Global};
 
 // Appends the answer of a turn. Where there was no memory, there is none for the answer either.
 fn push_turn(
-    heap: Global,
     number: u64,
     turned: Result<Answer, Failure>,
     out: &mut Vec<u8>,
@@ -26,8 +25,8 @@ fn push_turn(
     ensures bytes { OnOk result ((t : Turn) (s : State) → Turned t s turned → out.new.items ≡ out.old.items ++ answer_bytes number t.answer) }
 {
     match turned {
-        Ok(answer) => answer.push(heap, out),
-        Err(Failure::Refused(fault)) => push_printed(heap, out, &RefusedLine { number, fault }),
+        Ok(answer) => answer.push(out),
+        Err(Failure::Refused(fault)) => push_printed(out, &RefusedLine { number, fault }),
         Err(Failure::Memory(e)) => Err(e),
     }
 }
@@ -60,7 +59,7 @@ impl Session {
         ensures state { OnOk result (state_of self.new.stage ≡ (line_turn (state_of self.old.stage) line.now).after) }
     {
         let turned = self.line_turn(heap, line, memory);
-        push_turn(heap, number, turned, out)?;
+        push_turn(number, turned, out)?;
         out.push(b'\n')?;
         Ok(())
     }
