@@ -16,28 +16,25 @@ enum Writing {
     Binary,
 }
 
-// The digit of a base, 100 for other bytes.
-fn digit(base: u64, c: u8) -> u64 {
+// The digit of a base that a byte is, if it is one.
+fn digit(base: u64, c: u8) -> Option<u64> {
     match c {
-        b'0'..=b'9' if ((c - b'0') as u64) < base => (c - b'0') as u64,
-        _ => 100,
+        b'0'..=b'9' => Some((c - b'0') as u64).filter(|d| *d < base),
+        _ => None,
     }
 }
 
 // The number that one to three digits write, without a needless leading zero.
 fn number(base: u64, text: &[u8]) -> Option<u64> {
     let (a, b, c) = match text {
-        [c] => (0, 0, digit(base, *c)),
+        [c] => (0, 0, digit(base, *c)?),
         [b'0', ..] => return None,
-        [b, c] => (0, digit(base, *b), digit(base, *c)),
-        [a, b, c] => (digit(base, *a), digit(base, *b), digit(base, *c)),
+        [b, c] => (0, digit(base, *b)?, digit(base, *c)?),
+        [a, b, c] => (digit(base, *a)?, digit(base, *b)?, digit(base, *c)?),
         _ => return None,
     };
-    if a == 100 || b == 100 || c == 100 || base > 10 {
-        return None;
-    }
     Some(
-        a.wrapping_mul(base * base)
+        a.wrapping_mul(base.wrapping_mul(base))
             .wrapping_add(b.wrapping_mul(base))
             .wrapping_add(c),
     )

@@ -1,7 +1,9 @@
 -- Inversions in one pass: the letters so far are bytes of one number, and casting out 255 adds up the bytes of the larger letters.
-use Rattle.std.proofs.Common.{◌≡◌, ℕ, zero, suc, ◌+◌, ◌-◌, ◌*◌, ◌%◌, ◌^◌, ◌<◌, ◌≤◌, Bool, true, cond, ltb, List, [], ◌∷◌, length, get_or, drop, sym, refl, ap, ◌∙◌, subst, ap₂, ⊎_elim, mod-lt, mod-eq_of_lt, mul_assoc, mul_comm, pow-suc, mul-add, arith, pow-add}
+use Rattle.std.proofs.Common.{◌≡◌, ℕ, zero, suc, ◌+◌, ◌-◌, ◌*◌, ◌%◌, ◌^◌, ◌<◌, ◌≤◌, Bool, true, cond, ltb, List, [], ◌∷◌, length, get_or, drop, take, sym, refl, ap, ◌∙◌, subst, ap₂, ⊎_elim, mod-lt, mod-eq_of_lt, mul_assoc, mul_comm, pow-suc, mul-add, arith, pow-add}
 use native.Mathlib.Nat.{mul-add-mod_self_left, mul-add-mod_self_right, add-mod, one-le-pow}
 use lib.Bits.{bit_and}
+use denote.Bor.{Bor}
+use Rattle.std.proofs.lemmas.List.{get_or-take, get_or-drop, length-take-le, length-drop}
 use Rattle.std.proofs.lemmas.Bool.{cases_eq, cases_Bool, ltb-true, ltb-false}
 use Rattle.std.proofs.lemmas.Nat.{one_shl, and_mask}
 use Rattle.orders.specs.Letters.{letters, is_letter, count}
@@ -153,17 +155,35 @@ pairs_le i zero h = let e : i ≡ 0 = omega arith in let q = ap pairs e in omega
 pairs_le i (suc j) h =
     ⊎_elim (λ e. let q = ap pairs e in omega arith) (λ e. let l = pairs_le i j (omega arith) in omega arith) (cases_eq i (suc j))
 
-pub pairs_first : (i : ℕ) → i ≤ 23 → pairs i ≤ 254
-pairs_first i h = let l : pairs i ≤ 253 = pairs_le i 23 h in omega arith
+-- where the part k of a row begins, and where the last one ends
+abbrev pub cut : ℕ → ℕ
+cut zero = 0
+cut (suc zero) = 23
+cut (suc (suc k)) = 32
 
-pub pairs_row : (i : ℕ) → i ≤ 32 → pairs i ≤ 254 + 253
-pairs_row i h = let l : pairs i ≤ 496 = pairs_le i 32 h in omega arith
+pub pairs_most : (k i : ℕ) → i ≤ cut (k + 1) → pairs i ≤ 254 + 248 * k
+pairs_most zero i h = let l : pairs i ≤ 253 = pairs_le i 23 (omega arith) in omega arith
+pairs_most (suc k) i h = let o : suc k + 1 ≡ suc (suc k) = omega arith in let e = ap cut o in let l : pairs i ≤ 496 = pairs_le i 32 (omega arith) in omega arith
+
+pub pairs_least : (k i : ℕ) → k < 3 → i ≡ cut k → 248 * k ≤ pairs i
+pairs_least zero i h e = omega arith
+pairs_least (suc zero) i h e = let l : 253 ≤ pairs i = pairs_le 23 i (omega arith) in omega arith
+pairs_least (suc (suc k)) i h e = let l : 496 ≤ pairs i = pairs_le 32 i (omega arith) in omega arith
+
+-- the part k of a row
+abbrev pub IsPart : ℕ → List ℕ → List ℕ → Type 0
+IsPart k row p = (cut k + length p ≡ cut (k + 1)) × (cut k + length p ≤ 32) × ((j : ℕ) → j < length p → get_or p j 0 ≡ get_or row (cut k + j) 0)
+
+pub parts : (row : List ℕ) (a b d : Bor (List ℕ)) → length row ≡ 32 → a.now ≡ take 23 row → b.now ≡ take 9 (drop 23 row) → (k : ℕ) → k < 2 → IsPart k row (get_or (a ∷ b ∷ []) k d).now
+parts row a b d l e f zero h = let n = length-take-le 23 row (omega arith) in rw e (omega arith, omega arith, λ j i. get_or-take 23 row j 0 (omega arith) ∙ ap (λ m. get_or row m 0) (omega arith))
+parts row a b d l e f (suc zero) h = let m = length-drop 23 row in let n = length-take-le 9 (drop 23 row) (omega arith) in rw f (omega arith, omega arith, λ j i. get_or-take 9 (drop 23 row) j 0 (omega arith) ∙ get_or-drop 23 row j 0)
+parts row a b d l e f (suc (suc k)) h = absurd (omega arith)
 
 -- after a pass over i letters, which make the number s: they and the rest w of the word have t inversions; n of them and what 255
--- leaves of m are counted so far. k is 1 where n holds those of the first 23 letters, and 0 before that
+-- leaves of m are counted so far. k is how many parts of the row n holds
 unfoldable pub Counted : (k i s n m : ℕ) → List ℕ → ℕ → Type 0
 Counted k i s n m w t =
-    (p : List ℕ) × Lettered p × (length p ≡ i) × (packing p ≡ s) × (m % 255 + 253 * k ≤ pairs i) × (n + m % 255 + crossing p w + inversions w ≡ t)
+    (p : List ℕ) × Lettered p × (length p ≡ i) × (packing p ≡ s) × (m % 255 + 248 * k ≤ pairs i) × (n + m % 255 + crossing p w + inversions w ≡ t)
 
 pub counted_none : (w : List ℕ) → Counted 0 0 0 0 0 w (inversions w)
 unfolding Counted
@@ -173,14 +193,12 @@ pub counted_all : (k i s n m t : ℕ) (w : List ℕ) → w ≡ [] → Counted k 
 unfolding Counted
 counted_all k i s n m t w e (p, h, l, q, b, c) = let f = ap (λ w. crossing p w + inversions w) e in omega arith
 
-pub counted_cut : (i s m t : ℕ) (row : List ℕ) → i ≡ 23 → Counted 0 i s 0 m (letters (drop i row)) t → Counted 1 23 s (m % 255) 0 (letters (drop 23 row)) t
+pub counted_cut : (k i s n m t : ℕ) (w : List ℕ) → 248 * (k + 1) ≤ pairs i → Counted k i s n m w t → Counted (k + 1) i s (n + m % 255) 0 w t
 unfolding Counted
-counted_cut i s m t row e (p, h, l, q, b, c) =
-    let f = ap (λ i. crossing p (letters (drop i row)) + inversions (letters (drop i row))) e in
-    (p, h, omega arith, q, omega arith, omega arith)
+counted_cut k i s n m t w g (p, h, l, q, b, c) = (p, h, l, q, omega arith, omega arith)
 
 -- one letter more: what 255 leaves of m and the number of the larger letters before x are less than 255 together
-counted_more : (k i s n m x u d t : ℕ) (v w : List ℕ) → is_letter x ≡ true → v ≡ x ∷ w → i < 255 → pairs (i + 1) ≤ 254 + 253 * k → u ≡ 256 ^ (8 - x)
+counted_more : (k i s n m x u d t : ℕ) (v w : List ℕ) → is_letter x ≡ true → v ≡ x ∷ w → i < 255 → pairs (i + 1) ≤ 254 + 248 * k → u ≡ 256 ^ (8 - x)
     → d ≡ s % 256 ^ (8 - x) → Counted k i s n m v t → Counted k (i + 1) (s + u) n (m + d) w t
 unfolding Counted
 counted_more k i s n m x u d t v w y z r f g o (p, h, l, q, b, c) =
@@ -191,7 +209,7 @@ counted_more k i s n m x u d t v w y z r f g o (p, h, l, q, b, c) =
     let e = ap (λ w. crossing p w + inversions w) z in
     (x ∷ p, (y, h), omega arith, omega arith, sum.1, let q = sum.0 in omega arith)
   where
-    added : (m d a : ℕ) → a ≤ i → d % 255 ≡ a → m % 255 + 253 * k ≤ pairs i → ((m + d) % 255 ≡ m % 255 + a) × ((m + d) % 255 + 253 * k ≤ pairs (i + 1))
+    added : (m d a : ℕ) → a ≤ i → d % 255 ≡ a → m % 255 + 248 * k ≤ pairs i → ((m + d) % 255 ≡ m % 255 + a) × ((m + d) % 255 + 248 * k ≤ pairs (i + 1))
     added m d a l e b =
         let o : i + 1 ≡ suc i = omega arith in
         let q : pairs (i + 1) ≡ i + pairs i = ap pairs o in
@@ -214,8 +232,11 @@ shifted_le x t =
     let l = unit_le x b.0 in
     omega arith
 
+pub shifted_here : (x y : ℕ) → x ≡ y → is_letter x ≡ true → shifted x ≤ 256 ^ 7
+shifted_here x y e t = shifted_le x t
+
 -- one letter more of a row, whose number is x and which is followed by the place j
-pub counted_next : (k i j s n m t x : ℕ) (row : List ℕ) → x ≡ get_or row i 0 → j ≡ i + 1 → is_letter x ≡ true → i < length row → i < 255 → pairs (i + 1) ≤ 254 + 253 * k
+pub counted_next : (k i j s n m t x : ℕ) (row : List ℕ) → x ≡ get_or row i 0 → j ≡ i + 1 → is_letter x ≡ true → i < length row → i < 255 → pairs (i + 1) ≤ 254 + 248 * k
     → m ≤ 256 ^ 7 * i → Counted k i s n m (letters (drop i row)) t
     → (m + bit_and s (shifted x - 1) ≤ 256 ^ 7 * j) × Counted k j (s + shifted x) n (m + bit_and s (shifted x - 1)) (letters (drop j row)) t
 counted_next k i j s n m t x row here after y l r f b c =

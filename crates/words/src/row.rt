@@ -24,32 +24,25 @@ const REDUCE_AT: usize = 23;
 
 // How many pairs of places have the larger letter on the left. The letters so far are counted in the bytes of one number, that of x1 the
 // highest; below the byte of a letter are those of the larger letters. These low parts are added up, and what 255 leaves of a sum is the
-// sum of its bytes as long as that is less than 255, so two remainders do for a whole row. There are two loops because an optimizer
-// may take the remainder at every letter where one loop tests the place.
+// sum of its bytes as long as that is less than 255, so two remainders do for a whole row, one for each part.
 pub fn row_inversions(row: &Row) -> usize
     ensures { result ≡ inversions_of (letters row.now) }
 {
     let mut seen = 0u64;
-    let mut sum = 0u64;
-    for x in &row[..REDUCE_AT] {
-        if !is_letter(*x) {
-            return (sum % 255) as usize;
+    let mut n = 0;
+    for part in [&row[..REDUCE_AT], &row[REDUCE_AT..]] {
+        let mut sum = 0u64;
+        for x in part {
+            if !is_letter(*x) {
+                return n + (sum % 255) as usize;
+            }
+            let unit = 1u64 << (64 - 8 * *x);
+            sum += seen & (unit - 1);
+            seen += unit;
         }
-        let unit = 1u64 << (64 - 8 * *x);
-        sum += seen & (unit - 1);
-        seen += unit;
+        n += (sum % 255) as usize;
     }
-    let n = (sum % 255) as usize;
-    sum = 0;
-    for y in &row[REDUCE_AT..] {
-        if !is_letter(*y) {
-            return n + (sum % 255) as usize;
-        }
-        let unit = 1u64 << (64 - 8 * *y);
-        sum += seen & (unit - 1);
-        seen += unit;
-    }
-    n + (sum % 255) as usize
+    n
 }
 
 // The place, counted from 0, of the left letter of the leftmost inversion of neighbours.
