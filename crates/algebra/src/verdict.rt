@@ -1,4 +1,4 @@
-// What is known of an algebra.
+// What is known of an algebra: three states, as the law of its histories speaks of them.
 #[derive(Clone, Copy, PartialEq, Eq, Debug)]
 pub enum Verdict {
     Undecided,

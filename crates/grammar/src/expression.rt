@@ -22,6 +22,7 @@ fn operator(s: &[u8]) -> Result<(Operator, &[u8]), ReadFault>
 }
 
 // The piece that an atom is.
+// By a match: the check has no proof of `map_or` with a variant as the function.
 fn leaf_of_atom<'a>(a: &'a [u8]) -> Piece<'a>
     ensures { shown result ≡ leaf_of a.now }
 {
@@ -32,6 +33,7 @@ fn leaf_of_atom<'a>(a: &'a [u8]) -> Piece<'a>
 }
 
 // Whether the operands may end here: a difference has two, a sum or a product one at least.
+// A difference has two operands, any other join as many as are written. So one more may come, or the end:
 fn can_end(op: Operator, joined: usize) -> bool
     ensures { result ≡ may_end op joined }
 {

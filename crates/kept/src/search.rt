@@ -9,7 +9,8 @@ use std::ops::Range;
 use words::measured::Measured;
 use words::term::Term;
 
-// The place of the term's word, or between which places it belongs: from the front, in doubling strides.
+// The place of the term's word, or between which places it belongs: from the front, in doubling strides, for which the library has no
+// search.
 fn stride<O: MonomialOrder>(
     order: &O,
     work: &[Term],

@@ -18,6 +18,7 @@ impl Image {
     pub fn of_row(row: &Row) -> Image
         ensures { counts_of result ≡ image (letters row.now) }
     {
+        // no chain: the closure of a `map` doesn't know what a `take_while` let through, and 64 - 8x may not fall below 0
         let mut packed = 0u64;
         for x in row {
             if !is_letter(*x) {

@@ -5,7 +5,8 @@
 ghost use Rattle.std.specs.Prelude.{◌≡◌};
 ghost use Rattle.refusals.specs.Refusals.{plain as placeless};
 
-// Its number, the layer that refuses, and four places; 0 where there is no place.
+// Its number, the layer that refuses, and four places; 0 where there is no place. These are the numbers that are printed: what is refused is
+// an enum in each layer.
 #[derive(Clone, Copy, PartialEq, Eq, Debug)]
 pub struct Refusal {
     pub number: u8,

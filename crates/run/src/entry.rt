@@ -30,6 +30,7 @@ impl<R: Ring, O: MonomialOrder> Rules<R, O> {
     ) -> Result<(), Cause>
         ensures { Left (addition (R.model self.now.ring) (O.model list.old.order.now) (places list.old) row code (items list.old)) list.old list.new result }
     {
+        // measured: with `row.ok_or(..)?` this function, which is called most, is longer
         let Some(row) = row else {
             return Err(Cause::WordTooLong);
         };
