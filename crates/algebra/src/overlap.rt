@@ -56,7 +56,7 @@ fn load_first<R: Ring, O: MonomialOrder>(
     ensures { Left (load (R.model rules.now.ring) (O.model list.old.order.now) (places list.old) (first_half (relation_of rules.now.table triple.k.number triple.j.number) triple.i.number triple.j.number triple.k.number) (items list.old)) list.old list.new result }
 {
     let Triple { i, j, k } = triple;
-    let relation = Relation::of_pair(&rules.table, k, j);
+    let relation = Relation::of_letters(&rules.table, k, j);
     let head = Entry {
         row: Some(row_of(&[j, k, i])),
         code: Ok(relation.factor()),
@@ -83,7 +83,7 @@ fn load_second<R: Ring, O: MonomialOrder>(
     ensures { Left (load (R.model rules.now.ring) (O.model list.old.order.now) (places list.old) (second_half (R.model rules.now.ring) (relation_of rules.now.table triple.j.number triple.i.number) triple.i.number triple.j.number triple.k.number) (items list.old)) list.old list.new result }
 {
     let Triple { i, j, k } = triple;
-    let relation = Relation::of_pair(&rules.table, j, i);
+    let relation = Relation::of_letters(&rules.table, j, i);
     let head = Entry {
         row: Some(row_of(&[k, i, j])),
         code: rules.ring.negative(relation.factor()),

@@ -1,5 +1,5 @@
 // Steps of a session with an algebra, from its declarations to a calculation in it.
-use crate::text::{VerdictText, calculation_line, term};
+use crate::text::{VerdictLine, calculation_line, term};
 use algebra::close::close;
 use algebra::closed::Closed;
 use answers::failure::Failure;
@@ -72,8 +72,7 @@ pub fn tell<R: Ring + Drop, O: MonomialOrder + Drop>(
     let mut work = [Term::blank(); PLACES];
     let mut out = [Term::blank(); PLACES];
     let verdict = algebra.decide(&mut work, &mut out)?;
-    push_printed(told, &VerdictText(verdict))?;
-    told.push(b'\n')?;
+    push_printed(told, &VerdictLine(verdict))?;
     let line = calculated(heap, &algebra, calculation)?;
     told.extend_from_slice(line.as_slice())?;
     Ok(())

@@ -41,16 +41,16 @@ pub fn calculation_line<R: Ring>(
     Ok(line)
 }
 
-// A verdict as it is printed.
+// A verdict as it is printed, a whole line: so there is no part of one where memory runs out.
 #[derive(Clone, Copy)]
-pub struct VerdictText(pub Verdict);
+pub struct VerdictLine(pub Verdict);
 
-impl fmt::Display for VerdictText {
+impl fmt::Display for VerdictLine {
     fn fmt<W: fmt::Write>(&self, f: &mut fmt::Formatter<W>) -> fmt::Result {
         match self.0 {
-            Verdict::Undecided => write!(f, "undecided"),
-            Verdict::Sound => write!(f, "sound"),
-            Verdict::Degenerate(i, j, k) => write!(f, "degenerate {i} {j} {k}"),
+            Verdict::Undecided => write!(f, "undecided\n"),
+            Verdict::Sound => write!(f, "sound\n"),
+            Verdict::Degenerate(i, j, k) => write!(f, "degenerate {i} {j} {k}\n"),
         }
     }
 }

@@ -32,17 +32,6 @@ filled-all xs =
     ap (λ ys. map (λ (x : Letter). x.number) ys ++ replicate (32 - length xs) 0) (take-length xs)
     ∙ ap (λ j. map (λ (x : Letter). x.number) xs ++ replicate (32 - j) 0) (sym (length-map xs (λ (x : Letter). x.number)))
 
-zeros-within : (n : ℕ) (xs : List ℕ) → all_zero xs ≡ true → list_all (λ x. leb x n) xs ≡ true
-zeros-within n [] h = refl
-zeros-within n (x ∷ xs) h =
-    let p = and_parts (eqb x 0) (all_zero xs) h in
-    rw (eqb-true x 0 p.0, le-leb 0 n (omega arith)) (zeros-within n xs p.1)
-
--- in a row that holds a word no letter is above n where no number is
-pub letters-within : (n : ℕ) (row : List ℕ) → is_row row ≡ true → list_all (λ x. leb x n) row ≡ letters_to n (letters row)
-letters-within n [] h = refl
-letters-within n (x ∷ xs) h =
-    ⊎_elim
-    (λ e. let r : is_row xs ≡ true = rw e at h in rw e (ap (λ b. leb x n && b) (letters-within n xs r)))
-    (λ e. let z : all_zero (x ∷ xs) ≡ true = rw e at h in rw e (zeros-within n (x ∷ xs) z))
-    (cases_Bool (is_letter x))
+pub all-letters : (n : ℕ) (w : List ℕ) → list_all (λ x. leb x n) w ≡ letters_to n w
+all-letters n [] = refl
+all-letters n (x ∷ w) = ap (λ b. leb x n && b) (all-letters n w)

@@ -1,10 +1,10 @@
 // Rows of few letters, and rows that hold a word in the letters 1 to n.
-ghost use Rattle.std.specs.Prelude.{◌≡◌, ◌≤◌, nat_le, map, length};
-ghost use Rattle.std.specs.List.{list_all};
+ghost use Rattle.std.specs.Prelude.{◌≡◌, ◌≤◌, map, length};
+ghost use Rattle.orders.specs.Letters.{letters};
 ghost use Rattle.words.specs.Rows.{row_of as the_row};
-ghost use Rattle.relations.specs.Declare.{is_word};
+ghost use Rattle.relations.specs.Declare.{is_word, letters_to};
 
-use orders::letter::{Letter, Row};
+use orders::letter::{Letter, Row, is_letter};
 use words::word::Word;
 
 // The letters, then zeros.
@@ -19,11 +19,13 @@ pub fn row_of(letters: &[Letter]) -> Row
     row
 }
 
-// Whether no number of a row is above n.
+// Whether no letter of a row is above n. What stands behind the letters is not looked at: most words are short, and each term of a list is asked.
 fn is_within(n: u64, row: &Row) -> bool
-    ensures { result ≡ list_all (λ x. nat_le x n) row.now }
+    ensures { result ≡ letters_to n (letters row.now) }
 {
-    row.iter().all(|x| *x as u64 <= n)
+    row.iter()
+        .take_while(|x| is_letter(**x))
+        .all(|x| *x as u64 <= n)
 }
 
 // Whether a row has letters from 1 to n, then zeros.

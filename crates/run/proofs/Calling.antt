@@ -1,5 +1,5 @@
 -- Laws of a whole calculation.
-use Rattle.std.proofs.Common.{◌≡◌, ℕ, List, [], length, Ok, Err, Result, sym, ap, ◌∙◌, arith}
+use Rattle.std.proofs.Common.{◌≡◌, ℕ, List, [], length, Ok, Err, Result, sym, refl, ap, ◌∙◌, arith}
 use native.Mathlib.Nat.{sub-zero}
 use Rattle.std.proofs.lemmas.List.{drop_all, take_all, length-drop}
 use Rattle.coefficients.specs.Coding.{Coding}
@@ -9,6 +9,7 @@ use Rattle.kept.specs.Lists.{items, places}
 use Rattle.kept.specs.Terms.{blanks}
 use Rattle.kept.specs.declared.list.KeptList.{KeptList}
 use Rattle.run.specs.declared.done.Done.{Done}
+use Rattle.run.specs.declared.engine.TheConstants.{STEP_LIMIT}
 use Rattle.run.specs.declared.fault.RunFault.{RunFault}
 use Rattle.run.specs.declared.relation.Relation.{Relation}
 use Rattle.run.specs.Calls.{calculate, step_limit}
@@ -16,6 +17,11 @@ use Rattle.run.specs.Dones.{terms, room}
 use Rattle.run.specs.Entries.{Entry, load, then_do}
 use Rattle.run.specs.Post.{Left, Ran, Calculated}
 use Rattle.run.specs.Step.{Outcome, run_from}
+
+-- the constant of the code
+pub limit : STEP_LIMIT ≡ step_limit
+unfolding step_limit
+limit = refl
 
 -- an empty list l was made in the memory w, and no term is done in the memory out
 module _ {O : Type 0} {k : _} (model : O → OrderModel) (m : Coding) (table : List Relation) (es : List Entry) (order : O) (w out : List Term) (l : KeptList O k)

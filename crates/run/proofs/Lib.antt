@@ -5,3 +5,4 @@ pub mod Stepping
 pub mod Running
 pub mod Making
 pub mod Calling
+pub mod Standing

@@ -16,6 +16,10 @@ use kept::list::KeptList;
 use orders::order::MonomialOrder;
 use words::term::Term;
 
+mod lent;
+
+pub use lent::run;
+
 // The most steps that a run takes.
 const STEP_LIMIT: u64 = 1_000_000;
 

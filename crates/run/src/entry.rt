@@ -12,6 +12,10 @@ use orders::letter::Row;
 use orders::order::MonomialOrder;
 use words::term::Term;
 
+mod lent;
+
+pub use lent::add_entry;
+
 // The row of a word, unless the word is too long, the answer that gives the code, and the place of a fault.
 #[derive(Clone, Copy)]
 pub struct Entry {

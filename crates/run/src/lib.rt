@@ -7,6 +7,7 @@ pub mod engine;
 pub mod entry;
 pub mod fault;
 mod inversion;
+pub mod lent;
 pub mod load;
 pub mod relation;
 pub mod rules;

@@ -49,7 +49,7 @@ impl<R: Ring, O: MonomialOrder> Rules<R, O> {
         ensures { Left (load (R.model self.now.ring) (O.model list.old.order.now) (places list.old) (entries_at (R.model self.now.ring) self.now.table n (letters inversion.entry.t.now.row) inversion.entry.k inversion.entry.t.now.code) (items list.old)) list.old list.new result }
     {
         let (j, i) = inversion.letter_pair();
-        let relation = Relation::of_pair(&self.table, j, i);
+        let relation = Relation::of_letters(&self.table, j, i);
         let place = Place::stepping(n, j.number() as u64, i.number() as u64, 0);
         let exchange = Entry {
             row: Some(inversion.exchanged_row(j, i)),

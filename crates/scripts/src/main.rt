@@ -5,18 +5,24 @@ mod help;
 
 use anyhow::anyhow;
 use session::script::{INPUT_BYTES, answer_script};
-use std::alloc::Global;
+use std::env;
 use std::fs::File;
 use std::io::{Read, Write};
-use std::{env, io};
 
 const VERSION: &str = "calculator 0.1, for G-algebras\n";
 
-// All that a reader gives, or one byte more than a script may have.
-fn read_script<R: Read + Drop>(heap: Global, reader: R) -> io::Result<Vec<u8>> {
-    let mut input = Vec::new(heap);
-    reader.take(INPUT_BYTES as u64 + 1).read_to_end(&mut input)?;
-    Ok(input)
+// Reads to the end, or until there is more than a script may have. A loop and no `take(..).read_to_end(..)`: that asks for 512 bytes at first, and
+// of an input that comes in packets it would lose what is left of a longer one.
+fn read_script<R: Read>(reader: &mut R, input: &mut Vec<u8>) -> anyhow::Result<()> {
+    let mut buffer = [0u8; 4096];
+    for _ in 0..u64::MAX {
+        let n = reader.read(&mut buffer)?;
+        if n == 0 || input.len() > INPUT_BYTES {
+            return Ok(());
+        }
+        input.extend_from_slice(&buffer[..n])?;
+    }
+    Ok(())
 }
 
 fn print(rt: &HostRuntime, bytes: &[u8]) -> anyhow::Result<()> {
@@ -27,8 +33,9 @@ fn print(rt: &HostRuntime, bytes: &[u8]) -> anyhow::Result<()> {
 }
 
 // The answers of the script that a reader gives.
-fn answer<R: Read + Drop>(rt: &HostRuntime, reader: R) -> anyhow::Result<()> {
-    let input = read_script(rt.alloc(), reader)?;
+fn answer<R: Read>(rt: &HostRuntime, reader: &mut R) -> anyhow::Result<()> {
+    let mut input = Vec::new(rt.alloc());
+    read_script(reader, &mut input)?;
     let output = answer_script(rt.alloc(), input.as_slice())?;
     print(rt, output.as_slice())
 }
@@ -36,7 +43,7 @@ fn answer<R: Read + Drop>(rt: &HostRuntime, reader: R) -> anyhow::Result<()> {
 fn main(rt: HostRuntime) -> anyhow::Result<()> {
     let mut args = env::args(&rt)?.skip(1);
     let Some(first) = args.next() else {
-        return answer(&rt, rt.stdin());
+        return answer(&rt, &mut rt.stdin());
     };
     if args.next().is_some() {
         return Err(anyhow!("more than one argument: see calculator --help"));
@@ -44,6 +51,6 @@ fn main(rt: HostRuntime) -> anyhow::Result<()> {
     match first.as_str() {
         "--help" => print(&rt, help::TEXT.as_bytes()),
         "--version" => print(&rt, VERSION.as_bytes()),
-        path => answer(&rt, File::open(&rt, path)?),
+        path => answer(&rt, &mut File::open(&rt, path)?),
     }
 }

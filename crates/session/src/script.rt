@@ -9,6 +9,7 @@ use crate::state::Session;
 use answers::fault::ScriptFault;
 use answers::text::{RefusedLine, push_printed};
 use grammar::fault::FormFault;
+use grammar::piece::Pieces;
 use std::alloc::{AllocError, Global};
 
 // The most bytes that an input has.
@@ -53,8 +54,9 @@ fn answer_lines(heap: Global, input: &[u8]) -> Result<Vec<u8>, AllocError>
     let mut out = Vec::new(heap);
     let mut memory = Memory::blank();
     let mut session = Session::new();
+    let mut pieces = Pieces::new();
     for (i, line) in Lines(input).enumerate() {
-        session.answer(heap, i as u64 + 1, line, &mut memory, &mut out)?;
+        session.answer_with(heap, i as u64 + 1, line, &mut pieces, &mut memory, &mut out)?;
     }
     Ok(out)
 }

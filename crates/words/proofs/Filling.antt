@@ -2,9 +2,8 @@
 use Rattle.std.proofs.Common.{◌≡◌, ℕ, suc, ◌+◌, ◌-◌, ◌<◌, true, false, cond, ◌&&◌, eqb, List, [], ◌∷◌, ◌++◌, length, get_or, drop, set, replicate, sym, refl, ap, ◌∙◌, ⊎_elim, arith}
 use Rattle.std.proofs.lemmas.Bool.{cases_Bool, and_parts, eqb-true, ne_eqb, eq-eqb}
 use Rattle.std.proofs.lemmas.List.{drop_more}
-use Rattle.std.specs.List.{list_all, prefix_len}
 use Rattle.orders.specs.Letters.{letters, is_letter}
-use Rattle.orders.proofs.Steps.{letter_bounds, drop_one}
+use Rattle.orders.proofs.Steps.{letter_bounds}
 use Rattle.words.specs.Rows.{is_row, all_zero, row_of}
 
 pub row_more : (xs : List ℕ) (i : ℕ) → i < length xs → is_row (drop i xs) ≡ cond (is_letter (get_or xs i 0)) (is_row (drop (i + 1) xs)) (eqb (get_or xs i 0) 0 && all_zero (drop (i + 1) xs))
@@ -92,15 +91,6 @@ letter_at y z w e =
 
 pub place-more : (xs : List ℕ) (i z : ℕ) → i < length xs → z ≡ cond (is_letter (get_or xs i 0)) (get_or xs i 0) 0 → letters (drop i xs) ≡ cond (eqb z 0) [] (z ∷ letters (drop (i + 1) xs))
 place-more xs i z h e = ap letters (drop_more xs i 0 h) ∙ letter_at (get_or xs i 0) z (letters (drop (i + 1) xs)) e
-
-all_zero-all : (xs : List ℕ) → list_all (λ x. eqb x 0) xs ≡ all_zero xs
-all_zero-all [] = refl
-all_zero-all (x ∷ xs) = ap (λ t. eqb x 0 && t) (all_zero-all xs)
-
--- a row holds a word where zeros alone come after the letters
-pub zeros_after : (xs : List ℕ) → list_all (λ x. eqb x 0) (drop (prefix_len is_letter xs) xs) ≡ is_row xs
-zeros_after [] = refl
-zeros_after (x ∷ xs) = ⊎_elim (λ e. rw e (ap (list_all (λ x. eqb x 0)) (drop_one (prefix_len is_letter xs) x xs) ∙ zeros_after xs)) (λ e. rw e (all_zero-all (x ∷ xs))) (cases_Bool (is_letter x))
 
 -- a letter at the place n, the first that is free
 pub row_push : (xs : List ℕ) (n x : ℕ) → n ≡ length (letters xs) → is_row xs ≡ true → n < length xs → is_letter x ≡ true → is_row (set xs n x) ≡ true

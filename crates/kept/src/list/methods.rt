@@ -1,5 +1,6 @@
 // How a kept list is made and changed.
 ghost use Rattle.std.specs.Prelude.{◌≡◌, length};
+ghost use Rattle.kept.specs.Falling.{ListFrom};
 ghost use Rattle.kept.specs.Kept.{insert as insertion};
 ghost use Rattle.kept.specs.Lists.{items, SameMemory, Changed, Taken};
 
@@ -24,6 +25,21 @@ impl<'a, O: MonomialOrder> KeptList<'a, O> {
             order,
             memory,
             start,
+        }
+    }
+
+    // The list that stands in a memory already, from a place to its end.
+    pub fn standing(order: &'a O, memory: &'a mut [Term], from: usize) -> KeptList<'a, O>
+        requires { ListFrom (O.model order.now) from memory.old }
+        ensures order { result.order.now ≡ order.now }
+        ensures reference { result.memory.ghost_name ≡ memory.entry.ghost_name }
+        ensures memory { result.memory.now ≡ memory.old }
+        ensures start { result.start ≡ from }
+    {
+        KeptList {
+            order,
+            memory,
+            start: from,
         }
     }
 

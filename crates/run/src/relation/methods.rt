@@ -1,5 +1,5 @@
 // How relations are made, and what is asked of them.
-ghost use Rattle.std.specs.Prelude.{◌≡◌, ◌<◌, length, IfSome, MatchOption};
+ghost use Rattle.std.specs.Prelude.{◌≡◌, ◌<◌, ◌≤◌, length, IfSome, MatchOption};
 ghost use Rattle.run.specs.Relations.{pair_place, relation_of, tail_of, made_relation};
 
 use crate::relation::{Relation, TAIL_TERMS, Table};
@@ -48,9 +48,18 @@ impl Relation {
     }
 
     // The relation of x_j x_i.
-    pub fn of_pair(table: &Table, j: Letter, i: Letter) -> &Relation
+    pub fn of_letters(table: &Table, j: Letter, i: Letter) -> &Relation
         ensures { result.now ≡ relation_of table.now j.number i.number }
     {
         &table[Relation::pair_place(j, i)]
+    }
+
+    // The same, where the letters are numbers yet.
+    pub fn of_pair(table: &Table, j: u8, i: u8) -> &Relation
+        requires { (0 < j) × ((j ≤ 8) × ((0 < i) × (i ≤ 8))) }
+        ensures { result.now ≡ relation_of table.now j i }
+    {
+        let place = 8 * (j as usize - 1) + (i as usize - 1);
+        &table[place]
     }
 }

@@ -33,16 +33,16 @@ fn push_turn(
 
 impl Session {
     // The turn of what a line holds; a line that is no form is refused.
-    fn line_turn(
+    fn line_turn<'a>(
         &mut self,
         heap: Global,
-        line: &[u8],
+        line: &'a [u8],
+        pieces: &mut Pieces<'a>,
         memory: &mut Memory,
     ) -> Result<Answer, Failure>
         ensures { Turned (line_turn (state_of self.old.stage) line.now) (state_of self.new.stage) result }
     {
-        let mut pieces = Pieces::new();
-        let form = read_line(line, &mut pieces)?;
+        let form = read_line(line, pieces)?;
         self.turn(heap, form, memory)
     }
 
@@ -58,7 +58,23 @@ impl Session {
         ensures bytes { OnOk result (out.new.items ≡ out.old.items ++ (answer_bytes number (line_turn (state_of self.old.stage) line.now).answer ++ (10 ∷ []))) }
         ensures state { OnOk result (state_of self.new.stage ≡ (line_turn (state_of self.old.stage) line.now).after) }
     {
-        let turned = self.line_turn(heap, line, memory);
+        self.answer_with(heap, number, line, &mut Pieces::new(), memory, out)
+    }
+
+    // The same, with room for the pieces of the line that is lent: a script makes it once, since making it costs more than most lines.
+    pub(crate) fn answer_with<'a>(
+        &mut self,
+        heap: Global,
+        number: u64,
+        line: &'a [u8],
+        pieces: &mut Pieces<'a>,
+        memory: &mut Memory,
+        out: &mut Vec<u8>,
+    ) -> Result<(), AllocError>
+        ensures bytes { OnOk result (out.new.items ≡ out.old.items ++ (answer_bytes number (line_turn (state_of self.old.stage) line.now).answer ++ (10 ∷ []))) }
+        ensures state { OnOk result (state_of self.new.stage ≡ (line_turn (state_of self.old.stage) line.now).after) }
+    {
+        let turned = self.line_turn(heap, line, pieces, memory);
         push_turn(number, turned, out)?;
         out.push(b'\n')?;
         Ok(())

@@ -32,10 +32,20 @@ impl From<WordFault> for Refusal {
 }
 
 // Whether a row has letters, then zeros.
+// measured: as a `skip_while(..).all(..)` this takes twice as long, and each term of every list is asked
 fn holds_word(row: &Row) -> bool
     ensures { result ≡ is_row row.now }
 {
-    row.iter().skip_while(|x| is_letter(**x)).all(|x| *x == 0)
+    let mut ended = false;
+    for x in row {
+        if ended || !is_letter(*x) {
+            if *x != 0 {
+                return false;
+            }
+            ended = true;
+        }
+    }
+    true
 }
 
 impl TryFrom<Row> for Word {

@@ -16,4 +16,4 @@ returns g c =
     let w : Entry = record { word = j ∷ k ∷ i ∷ []; code = Ok r.factor; place = overlap_place 1 0 } in
     let x : RowEntry = record { row = Some c.row_of.result; code = Ok c.factor.result; place = c.place_of.result } in
     let same : x ≡ row_entry w = cc in
-    rw (c.of_pair-relation.ensures, first-each i 1 (tail_of r)) at (c.load_half.ensures w (first_entry i) same (λ p t r e. e))
+    rw (c.of_letters-relation.ensures, first-each i 1 (tail_of r)) at (c.load_half.ensures w (first_entry i) same (λ p t r e. e))

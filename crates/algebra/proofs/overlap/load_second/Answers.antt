@@ -16,4 +16,4 @@ returns g c =
     let w : Entry = record { word = k ∷ i ∷ j ∷ []; code = m.negative r.factor; place = overlap_place 2 0 } in
     let x : RowEntry = record { row = Some c.row_of.result; code = c.negative.result; place = c.place_of.result } in
     let same : x ≡ row_entry w = cc in
-    rw (c.of_pair-relation.ensures, second-each m k 1 (tail_of r)) at (c.load_half.ensures w (second_entry m k) same (λ p t r e. e))
+    rw (c.of_letters-relation.ensures, second-each m k 1 (tail_of r)) at (c.load_half.ensures w (second_entry m k) same (λ p t r e. e))

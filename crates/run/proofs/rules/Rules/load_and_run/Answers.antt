@@ -1,13 +1,8 @@
-use Rattle.std.proofs.Common.{◌≡◌, refl, rules}
+use Rattle.std.proofs.Common.{rules}
 use Rattle.std.proofs.lemmas.Result.{err_from_is_err_and}
 use Rattle.run.specs.declared.engine.TheConstants.{STEP_LIMIT}
-use Rattle.run.specs.Calls.{step_limit}
-use Rattle.run.proofs.Calling.{stopped, refused, ran}
+use Rattle.run.proofs.Calling.{limit, stopped, refused, ran}
 use Rattle.run.proofs.rules.Rules.load_and_run.Goals as goal
-
-limit : STEP_LIMIT ≡ step_limit
-unfolding step_limit
-limit = refl
 
 pub returns-in_err-load : goal.returns-in_err-load
 returns-in_err-load g c =

@@ -3,7 +3,7 @@ use Rattle.std.proofs.lemmas.List.{append_assoc}
 use Rattle.answers.specs.Answers.{answer_bytes}
 use Rattle.session.specs.State.{state_of}
 use Rattle.session.specs.Transcript.{line_turn}
-use Rattle.session.proofs.state.Session.answer.Goals as goal
+use Rattle.session.proofs.state.Session.answer_with.Goals as goal
 
 pub returns-clause-bytes : goal.returns-clause-bytes
 returns-clause-bytes c =
